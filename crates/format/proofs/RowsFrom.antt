@@ -1,0 +1,29 @@
+-- `rowsFrom` as a list: its length and its elements; and so the rows of a lent line table.
+-- Assumes nothing.
+use Prim.Native.Nat.{ℕ, zero, suc, _+_, _/_, _<_}
+use native.Mathlib.Nat.{le-of-suc-le-suc, add-zero, add-suc, suc-add, zero-add}
+use native.Mathlib.Omega.{arith}
+use mathlib.Core.Path.{_≡_, refl, ap, _∙_}
+use mathlib.Core.List.{List}
+use lib.ListN.{length, getD}
+use Rattle.format.specs.Rows.{lineRow}
+use Rattle.format.specs.Line.{entry, rowsFrom, lineRowAt, mapOf}
+
+module _ {R : Type 0} (f : ℕ → R) where
+  pub rowsFrom-length : (i n : ℕ) → length (rowsFrom f i n) ≡ n
+  unfolding rowsFrom
+  rowsFrom-length i zero = refl
+  rowsFrom-length i (suc n) = ap suc (rowsFrom-length (suc i) n)
+
+  pub rowsFrom-at : (i n j : ℕ) (d : R) → j < n → getD (rowsFrom f i n) j d ≡ f (i + j)
+  unfolding rowsFrom
+  rowsFrom-at i zero j d h = absurd (omega arith)
+  rowsFrom-at i (suc n) zero d h = rw add-zero
+  rowsFrom-at i (suc n) (suc j) d h = rw (add-suc, ← suc-add) (rowsFrom-at (suc i) n j d (le-of-suc-le-suc h))
+
+-- a line table has an entry for every two words
+pub map-length : (t : List ℕ) → length (mapOf t) ≡ length t / 2
+map-length t = rowsFrom-length (lineRowAt t) 0 (length t / 2)
+
+pub map-entry : (t : List ℕ) (i : ℕ) → i < length t / 2 → entry (mapOf t) i ≡ lineRowAt t i
+map-entry t i h = rowsFrom-at (lineRowAt t) 0 (length t / 2) i (lineRow 0 0) h ∙ rw zero-add

@@ -1,0 +1,14 @@
+pub mod Bytes
+pub mod Headers
+pub mod Rows
+pub mod Reading
+pub mod Irep
+pub mod Walk
+pub mod Lvar
+pub mod Packed
+pub mod Debug
+pub mod File
+pub mod Load
+pub mod Insn
+pub mod Rules
+pub mod Line

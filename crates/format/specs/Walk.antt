@@ -1,0 +1,18 @@
+-- The walk over the records, for LVAR and DBG alike. Paper 01, 'Loading': "the walk from record 0"; a visited record is read, "then its
+-- rlen children are visited in turn; a visit past the last record reads nothing".
+-- Assumes nothing.
+use Prim.Native.Nat.{ℕ, zero, suc, _+_}
+use mathlib.Core.Bool.{Bool, cond}
+use mathlib.Core.List.{List, [], _∷_}
+use Rattle.format.specs.Bytes.{ok}
+use Rattle.format.specs.Reading.{Read, reading, Part, add, andThen}
+use Rattle.format.specs.Irep.{Rec}
+
+-- The records left are rs, and `pending` visits are still to be made: a record's children come before the visits that were pending. Where
+-- what is read is spent, a visit reads nothing. A record's rows are a list of their own, so the first list is record 0's, and so on.
+unfoldable pub walk : {R : Type 0} → (Rec → ℕ → Part (List R)) → (ℕ → Bool) → List Rec → ℕ → ℕ → Read (List R)
+walk visit spent [] pending at = reading [] (ok at)
+walk visit spent (r ∷ rs) zero at = reading [] (ok at)
+walk visit spent (r ∷ rs) (suc pending) at =
+    cond (spent at) (reading [] (ok at))
+    (let v = visit r at in add (v .it) (andThen (v .end) (walk visit spent rs (r .head .rlen + pending))))

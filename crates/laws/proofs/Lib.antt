@@ -1,0 +1,4 @@
+pub mod Table
+pub mod Packed
+pub mod Line
+pub mod Samples
