@@ -1,0 +1,86 @@
+// Fields of two and four bytes, and the headers of the file, its sections and its records.
+ghost use mathlib.Core.Path.{_≡_};
+ghost use Prim.Native.Nat.{_-_, _<_};
+ghost use lib.ListN.{length};
+ghost use Rattle.format.specs.Bytes.{u16At, u32At, reads};
+ghost use Rattle.binfmt.specs.Answers.{field16Of, field32Of};
+
+mod headers;
+
+pub use headers::IrepCatchHandler;
+pub use headers::IrepCatchHandlerRead;
+pub use headers::IrepRecord;
+pub use headers::IrepRecordRead;
+pub use headers::RiteBinaryHeader;
+pub use headers::RiteBinaryHeaderRead;
+pub use headers::SectionIrepHeader;
+pub use headers::SectionIrepHeaderRead;
+pub use headers::SectionMiscHeader;
+pub use headers::SectionMiscHeaderRead;
+
+// A field of two bytes, or the refusal's number.
+pub enum Field16 {
+    Value(u16),
+    Refused(u8),
+}
+
+// A field of four bytes, or the refusal's number.
+pub enum Field32 {
+    Value(u32),
+    Refused(u8),
+}
+
+fn wide16(x: u8) -> u16
+    ensures { λ r. ⌜ (r ≡ x) × (r < 256) ⌝ }
+{
+    x as u16
+}
+
+fn wide32(x: u8) -> u32
+    ensures { λ r. ⌜ (r ≡ x) × (r < 256) ⌝ }
+{
+    x as u32
+}
+
+// Two bytes, high byte first.
+pub fn be16_to_u16(be16: [u8; 2]) -> u16
+    ensures { λ r. ⌜ r ≡ u16At be16 0 ⌝ }
+{
+    wide16(be16[0]) * 256 + wide16(be16[1])
+}
+
+// Four bytes, high byte first.
+pub fn be32_to_u32(be32: [u8; 4]) -> u32
+    ensures { λ r. ⌜ r ≡ u32At be32 0 ⌝ }
+{
+    ((wide32(be32[0]) * 256 + wide32(be32[1])) * 256 + wide32(be32[2])) * 256 + wide32(be32[3])
+}
+
+// How many bytes are left from a place on; none where it is past the end.
+pub fn rest(head: &[u8], cur: usize) -> usize
+    ensures { λ r. ⌜ r ≡ length (now (head .entry)) - cur ⌝ }
+{
+    if cur < head.len() {
+        head.len() - cur
+    } else {
+        0
+    }
+}
+
+pub fn u16_at(head: &[u8], cur: usize) -> Field16
+    ensures { λ r. ⌜ field16Of r ≡ reads (now (head .entry)) cur 2 (u16At (now (head .entry)) cur) ⌝ }
+{
+    if rest(head, cur) < 2 {
+        return Field16::Refused(7);
+    }
+    Field16::Value(be16_to_u16([head[cur], head[cur + 1]]))
+}
+
+pub fn u32_at(head: &[u8], cur: usize) -> Field32
+    ensures { λ r. ⌜ field32Of r ≡ reads (now (head .entry)) cur 4 (u32At (now (head .entry)) cur) ⌝ }
+{
+    if rest(head, cur) < 4 {
+        return Field32::Refused(7);
+    }
+    Field32::Value(be32_to_u32([head[cur], head[cur + 1], head[cur + 2], head[cur + 3]]))
+}

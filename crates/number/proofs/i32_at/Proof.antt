@@ -1,0 +1,23 @@
+-- `number::i32_at` meets its contract.
+-- Assumes nothing.
+use mir.Syntax.{w32}
+use mir.ValLaws.{toZ-ofZ}
+use borrow.Author.Needs.{sfits-of}
+use mathlib.Core.Path.{sym, ap, _∙_}
+use Rattle.format.specs.Bytes.{ok, u32At, signed32}
+use Rattle.binfmt.specs.Answers.{field32Of}
+use Rattle.number.proofs.Mapped.{mapped, reads-mapped}
+use borrow.Author.Needs.{needs}
+use Rattle.number.proofs.i32_at.Statement.{statement}
+use Rattle.number.proofs.i32_at.Tie as tie
+
+returns : tie.Need-returns
+returns c = ap (mapped signed32) (ap field32Of (sym (c .before .e .given .1)) ∙ c .before .before .before .u32-at .ensures) ∙ reads-mapped signed32 (c .before .before .before .before .before .args .head .now) (c .before .before .before .before .before .args .cur) 4 (u32At (c .before .before .before .before .before .args .head .now) (c .before .before .before .before .before .args .cur))
+
+returns-2 : tie.Need-returns-2
+returns-2 c = ap ok (toZ-ofZ w32 (c .to-i32 .result) (sfits-of (c .to-i32 .ok)) ∙ c .to-i32 .ensures) ∙ ap (mapped signed32) (ap field32Of (sym (c .before .before .n .given .1)) ∙ c .before .before .before .before .u32-at .ensures) ∙ reads-mapped signed32 (c .before .before .before .before .before .before .args .head .now) (c .before .before .before .before .before .before .args .cur) 4 (u32At (c .before .before .before .before .before .before .args .head .now) (c .before .before .before .before .before .before .args .cur))
+
+pub i32-at-spec : {M : Type 1} → statement M
+i32-at-spec =
+    tie.close
+    (tie.spec (λ c κs. search needs) (λ c. search needs) (λ c. search needs) (λ c κs. search needs) returns returns-2)
