@@ -1,0 +1,73 @@
+-- Laws of `times` and of a table's rows, which every reader's proof cites.
+-- Assumes nothing.
+use Prim.Native.Nat.{ℕ, zero, suc, _+_, _-_, _*_, _/_, _≤_, _<_}
+use mathlib.Core.Path.{_≡_, refl}
+use mathlib.Core.List.{List}
+use native.Mathlib.Omega.{arith}
+use native.Mathlib.Nat.{le-div-iff-mul-le, suc-mul}
+use Rattle.rows.specs.declared.Rows.{Rows}
+use Rattle.rows.specs.declared.Rows.the-variants.{Next, Refused}
+use mathlib.Core.Bool.{true, false}
+use lib.ListN.{getD}
+use lib.Dec.{eqb}
+use borrow.Author.Tests.{eq-eqb, ne-eqb}
+use Rattle.format.specs.Irep.{zeroLast}
+use Rattle.format.specs.Lvar.{noZero}
+use Rattle.rows.specs.Table.{Out, rowCount, out, times}
+
+-- row u of a table of n words, w to a row, lies inside it
+pub row-inside : (u n w : ℕ) → 0 < w → u < rowCount n w → u * w + w ≤ n
+row-inside u n w p h = let k : u < n / w = omega arith in rw (← suc-mul) (le-div-iff-mul-le p .0 k)
+
+nothing : {n : ℕ} → suc n ≤ 0 → ⊥
+nothing p = omega arith
+
+module _ (step : ℕ → ℕ → List ℕ → Out) where
+  -- a turn that goes on
+  pub times-go : (n at u : ℕ) (t : List ℕ) (r : Rows) (t′ : List ℕ) (at′ u′ : ℕ) → 0 < n → out r t′ ≡ step at u t → r ≡ Next at′ u′ → times step (n - 1) at′ u′ t′ ≡ times step n at u t
+  times-go zero at u t r t′ at′ u′ p e q = elim (nothing p) [ ]
+  times-go (suc n) at u t r t′ at′ u′ p e q =
+      let k : suc n - 1 ≡ n = omega arith in
+      rw (k, ← e, q)
+
+  -- a turn that refuses
+  pub times-no : (n at u : ℕ) (t : List ℕ) (r : Rows) (t′ : List ℕ) (k : ℕ) → 0 < n → out r t′ ≡ step at u t → r ≡ Refused k → out (Refused k) t′ ≡ times step n at u t
+  times-no zero at u t r t′ k p e q = elim (nothing p) [ ]
+  times-no (suc n) at u t r t′ k p e q = rw (← e, q)
+
+  -- no turn is left
+  pub times-done : (n at u : ℕ) (t : List ℕ) → n ≤ 0 → out (Next at u) t ≡ times step n at u t
+  times-done zero at u t p = refl
+  times-done (suc n) at u t p = elim (nothing p) [ ]
+
+-- the loops over the bytes of a text: one that is zero, one more that is not, and the end
+module _ (f : List ℕ) where
+  pub zeroLast-stop : (n at : ℕ) → 0 < n → getD f at 0 ≡ 0 → false ≡ zeroLast f n at
+  unfolding zeroLast
+  zeroLast-stop zero at p e = elim (nothing p) [ ]
+  zeroLast-stop (suc n) at p e = rw (eq-eqb (getD f at 0) 0 e)
+
+  pub zeroLast-more : (n at : ℕ) → 0 < n → (getD f at 0 ≡ 0 → ⊥) → zeroLast f (n - 1) (at + 1) ≡ zeroLast f n at
+  unfolding zeroLast
+  zeroLast-more zero at p e = elim (nothing p) [ ]
+  zeroLast-more (suc n) at p e = let k : suc n - 1 ≡ n = omega arith in rw (ne-eqb (getD f at 0) 0 e, k)
+
+  pub zeroLast-done : (n at : ℕ) → n ≤ 0 → eqb (getD f at 0) 0 ≡ zeroLast f n at
+  unfolding zeroLast
+  zeroLast-done zero at p = refl
+  zeroLast-done (suc n) at p = elim (nothing p) [ ]
+
+  pub noZero-stop : (n at : ℕ) → 0 < n → getD f at 0 ≡ 0 → false ≡ noZero f n at
+  unfolding noZero
+  noZero-stop zero at p e = elim (nothing p) [ ]
+  noZero-stop (suc n) at p e = rw (eq-eqb (getD f at 0) 0 e)
+
+  pub noZero-more : (n at : ℕ) → 0 < n → (getD f at 0 ≡ 0 → ⊥) → noZero f (n - 1) (at + 1) ≡ noZero f n at
+  unfolding noZero
+  noZero-more zero at p e = elim (nothing p) [ ]
+  noZero-more (suc n) at p e = let k : suc n - 1 ≡ n = omega arith in rw (ne-eqb (getD f at 0) 0 e, k)
+
+  pub noZero-done : (n at : ℕ) → n ≤ 0 → true ≡ noZero f n at
+  unfolding noZero
+  noZero-done zero at p = refl
+  noZero-done (suc n) at p = elim (nothing p) [ ]

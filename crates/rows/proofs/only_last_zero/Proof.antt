@@ -1,0 +1,44 @@
+-- `rows::only_last_zero` meets its contract. Assumes nothing.
+use borrow.Author.Needs.{needs}
+use native.Mathlib.Omega.{arith}
+use Prim.Native.Nat.{_+_}
+use mathlib.Core.Path.{_≡_, refl, _∙_}
+use denote.Ref.{now}
+use Rattle.format.specs.Irep.{zeroLast}
+use Rattle.rows.proofs.Laws.{zeroLast-stop, zeroLast-more, zeroLast-done}
+use Rattle.rows.proofs.only_last_zero.Statement.{statement}
+use Rattle.rows.proofs.only_last_zero.Tie as tie
+
+abbrev Inv-loop : tie.InvT-loop
+Inv-loop f n at left₀ i₀ left i = (i + left ≡ at + n) × (zeroLast f left i ≡ zeroLast f n at)
+
+abbrev μ-loop : tie.MeasureT-loop
+μ-loop f n at left₀ i₀ left i = left
+
+loop-holds : tie.Need-loop-holds Inv-loop μ-loop
+loop-holds c = (refl, refl)
+
+returns : tie.Need-returns Inv-loop μ-loop
+returns c = let l = c .before .before .before .loop in zeroLast-stop (now (c .before .before .before .before .args .f)) (l .left) (l .i) (c .before .before .loop-test .taken) (c .if1 .taken) ∙ l .inv .1
+
+loop-again : tie.Need-loop-again Inv-loop μ-loop
+loop-again c = let l = c .before .before .before .loop in (omega arith, zeroLast-more (now (c .before .before .before .before .args .f)) (l .left) (l .i) (c .before .before .loop-test .taken) (c .if1 .left) ∙ l .inv .1)
+
+returns-2 : tie.Need-returns-2 Inv-loop μ-loop
+returns-2 c = let l = c .before .before .loop in zeroLast-done (now (c .before .before .before .args .f)) (l .left) (l .i) (c .before .loop-test .left) ∙ l .inv .1
+
+pub only-last-zero-spec : {M : Type 1} → statement M
+only-last-zero-spec =
+    tie.close
+    (tie.spec
+    Inv-loop
+    μ-loop
+    loop-holds
+    (λ c. search needs)
+    returns
+    (λ c. search needs)
+    (λ c. search needs)
+    (λ c. search needs)
+    loop-again
+    (λ c. search needs)
+    returns-2)

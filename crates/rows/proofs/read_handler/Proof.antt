@@ -1,0 +1,35 @@
+-- `rows::read_handler` meets its contract.
+-- Assumes nothing.
+use borrow.Author.Tests.{lt-leb, le-leb}
+use Rattle.rows.specs.Rows.{handlerOf}
+use Rattle.format.specs.Irep.{handler}
+use borrow.Author.Needs.{needs}
+use Rattle.rows.proofs.read_handler.Statement.{statement}
+use Rattle.rows.proofs.read_handler.Tie as tie
+
+returns : tie.Need-returns
+unfolding handlerOf handler
+returns c = rw (← c .before .rest .ensures, lt-leb _ _ (c .if1 .taken))
+
+returns-2 : tie.Need-returns-2
+unfolding handlerOf handler
+returns-2 c = rw (← c .before .before .before .before .before .before .before .before .before .before .rest .ensures, le-leb _ _ (c .before .before .before .before .before .before .before .before .before .if1 .left), ← c .before .before .before .before .before .before .before .before .u8-in .ensures .0, ← c .before .before .before .before .before .before .before .u32-in .ensures, ← c .before .before .before .before .before .before .u32-in2 .ensures, ← c .before .before .before .before .before .u32-in3 .ensures) (c .before .before .put-row .ensures)
+
+pub read-handler-spec : {M : Type 1} → statement M
+read-handler-spec =
+    tie.close
+    (tie.spec
+    (λ c κs. search needs)
+    returns
+    (λ c κs. search needs)
+    (λ c. search needs)
+    (λ c κs. search needs)
+    (λ c. search needs)
+    (λ c κs. search needs)
+    (λ c. search needs)
+    (λ c κs. search needs)
+    (λ c. search needs)
+    (λ c. search needs)
+    (λ c κs. search needs)
+    (λ c. search needs)
+    returns-2)

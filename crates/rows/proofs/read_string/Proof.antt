@@ -1,0 +1,27 @@
+-- `rows::read_string` meets its contract.
+-- Assumes nothing.
+use Rattle.rows.specs.Rows.{stringOf}
+use borrow.Author.Needs.{needs}
+use Rattle.rows.proofs.read_string.Statement.{statement}
+use Rattle.rows.proofs.read_string.Tie as tie
+
+returns : tie.Need-returns
+unfolding stringOf
+returns c = rw (← c .before .before .before .before .before .before .before .before .plain-text .ensures, c .before .before .before .before .before .before .place .given .1) (c .before .before .put-row .ensures)
+
+returns-2 : tie.Need-returns-2
+unfolding stringOf
+returns-2 c = rw (← c .before .before .before .plain-text .ensures, c .before .k .given .1)
+
+pub read-string-spec : {M : Type 1} → statement M
+read-string-spec =
+    tie.close
+    (tie.spec
+    (λ c κs. search needs)
+    (λ c. search needs)
+    (λ c. search needs)
+    (λ c κs. search needs)
+    (λ c. search needs)
+    (λ c. search needs)
+    returns
+    returns-2)
