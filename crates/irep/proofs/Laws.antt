@@ -1,0 +1,128 @@
+-- Laws of the headers' fields, of a record's next place, and of the turns of the loop over records.
+-- Assumes nothing.
+use Prim.Native.Nat.{ℕ, zero, suc, _+_, _-_, _≤_, _<_}
+use mathlib.Core.Path.{_≡_, refl}
+use mathlib.Core.Bool.{Bool, true, false, cond}
+use mathlib.Core.List.{List}
+use native.Mathlib.Omega.{arith}
+use native.Mathlib.Nat.{add-zero, add-assoc}
+use lib.Dec.{leb, ltb, eqb}
+use lib.ListN.{length, take, drop, length-drop}
+use lib.Seq.{take-all, getD-drop}
+use borrow.Author.Tests.{le-leb, lt-leb, eqb-false}
+use Rattle.format.specs.Bytes.{has, u32At}
+use Rattle.format.specs.Headers.{irepHeader, recordHeader}
+use Rattle.format.specs.Irep.{Head, headAt}
+use Rattle.binfmt.specs.declared.headers.SectionIrepHeaderRead.{SectionIrepHeaderRead}
+use Rattle.binfmt.specs.declared.headers.IrepRecordRead.{IrepRecordRead}
+use Rattle.binfmt.specs.Headers.{sectionIrepHeaderOf, irepRecordOf}
+use Rattle.rows.specs.Table.{rowCount}
+use Rattle.irep.specs.declared.Used.{Used}
+use Rattle.irep.specs.declared.Content.{Content}
+use Rattle.irep.specs.declared.Content.the-variants as content
+use Rattle.irep.specs.declared.Reached.{Reached}
+use Rattle.irep.specs.declared.Reached.the-variants.{Next, Refused}
+use Rattle.irep.specs.Record.{headOfBytes, Lent, Run, run, onContent, bodyOf, finishOf, recordOf, recordsOf}
+
+nothing : 1 ≤ 0 → ⊥
+nothing p = omega arith
+
+-- the part of a file from a place on
+pub part-is : (f : List ℕ) (at : ℕ) → take (length f - at) (drop at f) ≡ drop at f
+part-is f at = take-all (length f - at) (drop at f) (rw length-drop (omega arith))
+
+-- a record's 16 bytes that are there
+pub head-bytes : (f : List ℕ) (at : ℕ) (r : IrepRecordRead) → at + 16 ≤ length f → r ≡ irepRecordOf (recordHeader (take (length f - at) (drop at f))) → headOfBytes (r .header) ≡ headAt f at
+unfolding headAt
+head-bytes f at r h e = rw (e, part-is f at, length-drop, le-leb 16 (length f - at - 0) (omega arith)) (simp (getD-drop, add-zero, add-assoc))
+
+module _ (f : List ℕ) (r : SectionIrepHeaderRead) (e : r ≡ sectionIrepHeaderOf (irepHeader f)) where
+  -- a section's 12 bytes that are there
+  pub header-there : r .refusal ≡ 0 → (has f 0 12 ≡ true) × (u32At (r .header .size) 0 ≡ u32At f 4)
+  header-there z = go (has f 0 12) refl
+    where
+      go : (b : Bool) → has f 0 12 ≡ b → (has f 0 12 ≡ true) × (u32At (r .header .size) 0 ≡ u32At f 4)
+      go true b = (b, rw (e, b))
+      go false b = let q = rw (e, b) at z in elim (nothing (omega arith)) [ ]
+
+  -- and that are not
+  pub header-short : (r .refusal ≡ 0 → ⊥) → (has f 0 12 ≡ false) × (r .refusal ≡ 7)
+  header-short z = go (has f 0 12) refl
+    where
+      go : (b : Bool) → has f 0 12 ≡ b → (has f 0 12 ≡ false) × (r .refusal ≡ 7)
+      go true b = elim (z (rw (e, b))) [ ]
+      go false b = (b, rw (e, b))
+
+-- tables of the same lengths
+pub record Same (t t₀ : Lent) : Type 0 where
+  pub records : length (t .records) ≡ length (t₀ .records)
+  pub handlers : length (t .handlers) ≡ length (t₀ .handlers)
+  pub pool : length (t .pool) ≡ length (t₀ .pool)
+  pub symbols : length (t .symbols) ≡ length (t₀ .symbols)
+
+-- where an answer goes on, that is past a place
+Later : ℕ → Reached → Type 0
+Later at a = (next : ℕ) (v : Used) → a ≡ Next next v → at < next
+
+module _ (at : ℕ) where
+  refuses : (k : ℕ) → Later at (Refused k)
+  unfolding Later
+  refuses k next v e = let z : _≡_ {A = ℕ} 0 1 = cc in elim (nothing (omega arith)) [ ]
+
+  either : (b : Bool) (x y : Run) → Later at (x .ans) → Later at (y .ans) → Later at (cond b x y .ans)
+  either true x y p q = p
+  either false x y p q = q
+
+  after : (a : Content) (k : Used → Run) (e : ℕ → Run) → ((v : Used) → Later at (k v .ans)) → ((n : ℕ) → Later at (e n .ans)) → Later at (onContent a k e .ans)
+  after (content.Read v) k e p q = p v
+  after (content.Refused n) k e p q = q n
+
+  finish-later : (h : Head) (base : ℕ) (records : List ℕ) (u v : Used) → Later at (finishOf h base at records u v .ans)
+  unfolding finishOf Later
+  finish-later h base records u v next w e = by-size (eqb (h .size) 0) refl
+    where
+      by-row : (h .size ≡ 0 → ⊥) → eqb (h .size) 0 ≡ false → (b : Bool) → ltb (u .records) (rowCount (length records) 19) ≡ b → at < next
+      by-row p z true b = let q = rw (z, b) at e in let n : next ≡ at + h .size = cc in omega arith
+      by-row p z false b = let q = rw (z, b) at e in let z : _≡_ {A = ℕ} 0 1 = cc in omega arith
+
+      by-size : (b : Bool) → eqb (h .size) 0 ≡ b → at < next
+      by-size true b = let q = rw b at e in let z : _≡_ {A = ℕ} 0 1 = cc in omega arith
+      by-size false b = by-row (eqb-false (h .size) 0 b) b (ltb (u .records) (rowCount (length records) 19)) refl
+
+-- a record moves the place on
+pub record-next : (f : List ℕ) (base limit at : ℕ) (t : Lent) (u : Used) (next : ℕ) (v : Used) → recordOf f base limit at t u .ans ≡ Next next v → at < next
+unfolding recordOf Later
+record-next f base limit at t u =
+    either at (has f at 16) _ _
+    (either at (leb limit (u .records)) _ _ (refuses at 14)
+    (either at (leb (rowCount (length (t .records)) 19) (u .records)) _ _ (refuses at 14)
+    (either at (has f (at + 16) (headAt f at .ilen)) _ _
+    (after at (bodyOf f base (headAt f at .clen) (at + 16 + headAt f at .ilen) (t .handlers) (t .pool) (t .symbols) u .ans) _ _
+    (λ v. finish-later at (headAt f at) base (t .records) u v)
+    (λ k. refuses at k))
+    (refuses at 7))))
+    (refuses at 7)
+
+module _ (f : List ℕ) (base size limit at : ℕ) (t : Lent) (u : Used) where
+  -- the place reaches the size
+  pub records-done : (n : ℕ) → size ≤ at → run (Next at u) t ≡ recordsOf f base size limit n at t u
+  unfolding recordsOf
+  records-done zero h = refl
+  records-done (suc n) h = rw (le-leb _ _ h)
+
+  module _ (n : ℕ) (left : size - at ≤ n) (below : at < size) (o : Run) (e : o ≡ recordOf f base limit at t u) where
+    unroll : (m : ℕ) → n ≡ suc m → (next : ℕ) (v : Used) → o .ans ≡ Next next v → recordsOf f base size limit m next (o .tabs) v ≡ recordsOf f base size limit n at t u
+    unfolding recordsOf
+    unroll m d next v q = rw (d, lt-leb _ _ below, ← e, q)
+
+    -- a record that goes on
+    pub records-go : (next : ℕ) (v : Used) → o .ans ≡ Next next v → recordsOf f base size limit (n - 1) next (o .tabs) v ≡ recordsOf f base size limit n at t u
+    records-go next v q = unroll (n - 1) (omega arith) next v q
+
+    pub records-later : (next : ℕ) (v : Used) → o .ans ≡ Next next v → at < next
+    records-later next v q = record-next f base limit at t u next v (rw e at q)
+
+    -- a record that refuses
+    pub records-no : (k : ℕ) → o .ans ≡ Refused k → run (Refused k) (o .tabs) ≡ recordsOf f base size limit n at t u
+    unfolding recordsOf
+    records-no k q = let d : n ≡ suc (n - 1) = omega arith in rw (d, lt-leb _ _ below, ← e, q)
