@@ -1,0 +1,198 @@
+// The LVAR section: its strings, then the names of each record that the walk visits, put into lent tables of words.
+use binfmt::Field32;
+use binfmt::SectionMiscHeader;
+use binfmt::be32_to_u32;
+use binfmt::u32_at;
+use rows::Row;
+use rows::Rows;
+use rows::first_row;
+use rows::read_rows;
+ghost use mathlib.Core.Path.{_≡_};
+ghost use Prim.Native.Nat.{_+_, _*_, _≤_, _<_};
+ghost use lib.ListN.{length};
+ghost use Rattle.format.specs.Bytes.{u32At, reads};
+ghost use Rattle.binfmt.specs.Answers.{field32Of};
+ghost use Rattle.lvar.specs.Names.{state, outOf, putNames, lvStep, lvWalk};
+ghost use Rattle.lvar.specs.Section.{filled, endOf, lvarOf};
+
+// The next place, the next record and the names used, or a refusal's number.
+enum Walk {
+    Next { at: usize, rec: usize, used: u32 },
+    Refused(u8),
+}
+
+// The section's size and the rows used of both tables, or a refusal's number.
+pub enum Lvar {
+    Next { size: u32, strings: u32, names: u32 },
+    Refused(u8),
+}
+
+// Sets the first name and the number of names in the record row from a word on.
+fn put_names(records: &mut [u32], row: usize, first: u32, n: u32)
+    requires { ⌜ row + 14 < length (now records) ⌝ }
+    ensures { λ _. ⌜ now (records .exit) ≡ putNames (now (records .entry)) row first n ⌝ }
+{
+    records[row + 13] = first;
+    records[row + 14] = n;
+}
+
+// The entries of one record: one fewer than its nlocals.
+fn read_record(
+    f: &[u8],
+    records: &mut [u32],
+    names: &mut [u32],
+    strings: u32,
+    at: usize,
+    rec: usize,
+    used: u32,
+) -> Walk
+    requires { ⌜ (length (now f) ≤ 65536) × (rec * 19 + 14 < length (now records)) ⌝ }
+    ensures { λ r. ⌜ outOf r (now (records .exit)) (now (names .exit)) ≡ lvStep (now (f .entry)) strings (state at rec used (now (records .entry)) (now (names .entry))) ⌝ }
+{
+    let row = rec * 19;
+    let nlocals = records[row + 1];
+    if nlocals == 0 {
+        return Walk::Refused(11);
+    }
+    let n = nlocals - 1;
+    match read_rows(f, 0, Row::Name(strings), n as usize, at, names, used) {
+        Rows::Next {
+            at: next,
+            used: more,
+        } => {
+            put_names(records, row, first_row(used, n), n);
+            let after = rec + 1;
+            Walk::Next {
+                at: next,
+                rec: after,
+                used: more,
+            }
+        }
+        Rows::Refused(k) => Walk::Refused(k),
+    }
+}
+
+// A visit of a record: its entries, then its children in turn. A visit past the last record reads nothing.
+fn read_lv_records(
+    f: &[u8],
+    records: &mut [u32],
+    names: &mut [u32],
+    count: usize,
+    strings: u32,
+    at: usize,
+    rec: usize,
+    used: u32,
+) -> Walk
+    requires { ⌜ (length (now f) ≤ 65536) × (count * 19 ≤ length (now records)) ⌝ }
+    ensures { λ r. ⌜ outOf r (now (records .exit)) (now (names .exit)) ≡ lvWalk (now (f .entry)) strings count 1 (state at rec used (now (records .entry)) (now (names .entry))) ⌝ }
+{
+    if count <= rec {
+        return Walk::Next { at, rec, used };
+    }
+    let rlen = records[rec * 19 + 3];
+    match read_record(f, records, names, strings, at, rec, used) {
+        Walk::Refused(k) => Walk::Refused(k),
+        Walk::Next {
+            at: a1,
+            rec: r1,
+            used: u1,
+        } => {
+            let mut a = a1;
+            let mut r = r1;
+            let mut u = u1;
+            let mut child: u32 = 0;
+            while child < rlen {
+                if count <= r {
+                    return Walk::Next {
+                        at: a,
+                        rec: r,
+                        used: u,
+                    };
+                }
+                match read_lv_records(f, records, names, count, strings, a, r, u) {
+                    Walk::Refused(k) => {
+                        return Walk::Refused(k);
+                    }
+                    Walk::Next {
+                        at: a2,
+                        rec: r2,
+                        used: u2,
+                    } => {
+                        a = a2;
+                        r = r2;
+                        u = u2;
+                    }
+                }
+                child += 1;
+            }
+            Walk::Next {
+                at: a,
+                rec: r,
+                used: u,
+            }
+        }
+    }
+}
+
+// The size that the section states.
+fn stated_size(f: &[u8]) -> Field32
+    ensures { λ r. ⌜ field32Of r ≡ reads (now (f .entry)) 0 8 (u32At (now (f .entry)) 4) ⌝ }
+{
+    let read = SectionMiscHeader::from_bytes(f);
+    let refusal = read.refusal;
+    if refusal != 0 {
+        return Field32::Refused(refusal);
+    }
+    let header = read.header;
+    let size = header.size;
+    Field32::Value(be32_to_u32(size))
+}
+
+// The size is not 0, and the part has as many bytes.
+fn end_size(f: &[u8], size: u32, strings: u32, names: u32) -> Lvar
+    ensures { λ r. ⌜ r ≡ endOf (now (f .entry)) size strings names ⌝ }
+{
+    if size == 0 {
+        return Lvar::Refused(8);
+    }
+    let bytes = size as usize;
+    if f.len() < bytes {
+        return Lvar::Refused(7);
+    }
+    Lvar::Next {
+        size,
+        strings,
+        names,
+    }
+}
+
+// The strings, the names of the records visited, then the size.
+pub fn section_lvar(
+    f: &[u8],
+    base: usize,
+    count: usize,
+    records: &mut [u32],
+    strings: &mut [u32],
+    names: &mut [u32],
+) -> Lvar
+    requires { ⌜ (base + length (now f) ≤ 65536) × (count * 19 ≤ length (now records)) ⌝ }
+    ensures { λ r. ⌜ filled r (now (records .exit)) (now (strings .exit)) (now (names .exit)) ≡ lvarOf (now (f .entry)) base count (now (records .entry)) (now (strings .entry)) (now (names .entry)) ⌝ }
+{
+    let Field32::Value(size) = stated_size(f) else {
+        return Lvar::Refused(7);
+    };
+    let Field32::Value(n) = u32_at(f, 8) else {
+        return Lvar::Refused(7);
+    };
+    match read_rows(f, base, Row::Text, n as usize, 12, strings, 0) {
+        Rows::Refused(k) => Lvar::Refused(k),
+        Rows::Next { at, used } => match read_lv_records(f, records, names, count, n, at, 0, 0) {
+            Walk::Refused(k) => Lvar::Refused(k),
+            Walk::Next {
+                at: _,
+                rec: _,
+                used: named,
+            } => end_size(f, size, used, named),
+        },
+    }
+}
