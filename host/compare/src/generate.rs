@@ -1,0 +1,1110 @@
+//! Files from a seed: valid, damaged and at the boundaries of paper 01.
+
+use crate::rng::Rng;
+use model::{Flow, OPCODES, Role, flow, roles};
+
+/// Makes files; the corpus is the stock of real ones.
+pub struct Generator {
+    pub corpus: Vec<Vec<u8>>,
+}
+
+/// The families of files, in the order in which they are counted.
+pub const FAMILIES: [&str; 12] = [
+    "structured",
+    "debug",
+    "overlapping",
+    "sections",
+    "header",
+    "corpus, damaged",
+    "structured, damaged",
+    "inside code",
+    "long",
+    "many records",
+    "many children",
+    "bytes",
+];
+
+impl Generator {
+    /// The file of a seed and an index, with its family.
+    pub fn file(&self, seed: u64, index: u64) -> (usize, Vec<u8>) {
+        let mut rng = Rng::new(seed, index);
+        let odd = rng.pick(&[0, 0, 0, 400, 100, 40, 15]);
+        let mut maker = Maker { rng, odd };
+        let family = match maker.rng.below(1000) {
+            0..280 => 0,
+            280..440 => 1,
+            440..540 => 2,
+            540..640 => 3,
+            640..680 => 4,
+            680..800 => 5,
+            800..920 => 6,
+            920..960 => 7,
+            960..980 => 8,
+            980..985 => 9,
+            985..990 => 10,
+            _ => 11,
+        };
+        let file = match family {
+            0 => maker.structured(false),
+            1 => maker.structured(true),
+            2 => maker.overlapping(),
+            3 => maker.sections(),
+            4 => maker.header_only(),
+            5 if !self.corpus.is_empty() => {
+                let file = self.corpus[maker.rng.below(self.corpus.len())].clone();
+                maker.damaged(file)
+            }
+            5 | 6 => {
+                maker.odd = 0;
+                let file = maker.structured(true);
+                maker.damaged(file)
+            }
+            7 => maker.inside_code(),
+            8 => maker.long(),
+            9 => maker.many_records(),
+            10 => maker.many_children(),
+            _ => maker.any_bytes(),
+        };
+        (family, file)
+    }
+}
+
+/// Makes one file; each field is odd once in so many times, never where that is 0.
+struct Maker {
+    rng: Rng,
+    odd: usize,
+}
+
+/// What the walks look at in a record.
+#[derive(Clone, Copy)]
+struct Seen {
+    nlocals: usize,
+    rlen: usize,
+}
+
+fn be2(n: usize) -> [u8; 2] {
+    (n as u16).to_be_bytes()
+}
+
+fn be4(n: usize) -> [u8; 4] {
+    (n as u32).to_be_bytes()
+}
+
+/// A section with any stated size.
+fn section(mark: &[u8; 4], size: usize, content: &[u8]) -> Vec<u8> {
+    [&mark[..], &be4(size), content].concat()
+}
+
+/// A section with its exact size.
+fn exact(mark: &[u8; 4], content: &[u8]) -> Vec<u8> {
+    section(mark, content.len() + 8, content)
+}
+
+/// The number of records that a walk visits.
+fn visited(records: &[Seen]) -> usize {
+    let mut next = 0;
+    let mut pending = 1;
+    while pending > 0 && next < records.len() {
+        pending += records[next].rlen;
+        pending -= 1;
+        next += 1;
+    }
+    next
+}
+
+/// The records of a file that ends behind its IREP section, as far as they are read.
+fn seen(file: &[u8]) -> Vec<Seen> {
+    let records = model::read(file, [usize::MAX; 9]).rows.records.rows;
+    records
+        .iter()
+        .map(|record| Seen {
+            nlocals: record.nlocals as usize,
+            rlen: record.rlen as usize,
+        })
+        .collect()
+}
+
+impl Maker {
+    fn odd(&mut self) -> bool {
+        let times = self.odd;
+        self.rng.one_in(times)
+    }
+
+    /// A number that is small most of the time.
+    fn small(&mut self, bound: usize) -> usize {
+        let bound = self.rng.between(1, bound);
+        self.rng.below(bound)
+    }
+
+    /// A count or size, odd once in a while.
+    fn count(&mut self, right: usize) -> usize {
+        if !self.odd() {
+            return right;
+        }
+        match self.rng.below(8) {
+            0 => right + 1,
+            1 => right.saturating_sub(1),
+            2 => 0,
+            3 => right + self.rng.between(2, 20),
+            4 => right.saturating_sub(self.rng.between(2, 20)),
+            5 => self
+                .rng
+                .pick(&[255, 256, 32_767, 32_768, 65_534, 65_535, 65_536]),
+            6 => u32::MAX as usize - self.rng.below(3),
+            _ => self.rng.below(64),
+        }
+    }
+
+    /// A text without zeros.
+    fn text(&mut self) -> Vec<u8> {
+        let length = self.small(12);
+        if self.rng.one_in(4) {
+            return (0..length)
+                .map(|_| self.rng.between(1, 255) as u8)
+                .collect();
+        }
+        (0..length)
+            .map(|_| self.rng.pick(b"abcdefxyz_?!"))
+            .collect()
+    }
+
+    /// A text that no other in its list has, most of the time.
+    fn own_text(&mut self, number: usize) -> Vec<u8> {
+        let mut text = self.text();
+        if !self.rng.one_in(8) {
+            text.extend(number.to_string().bytes());
+        }
+        text
+    }
+
+    /// A text with its length before it, odd once in a while; symbols and constants have a zero behind it.
+    fn counted_text(&mut self, mut text: Vec<u8>, zero: bool) -> Vec<u8> {
+        let mut end = vec![0; usize::from(zero)];
+        let length = self.count(text.len());
+        if self.odd() && !text.is_empty() {
+            let at = self.rng.below(text.len());
+            text[at] = 0;
+        }
+        if self.odd() && zero {
+            end[0] = self.rng.between(1, 255) as u8;
+        }
+        [&be2(length)[..], &text, &end].concat()
+    }
+
+    fn constant(&mut self) -> Vec<u8> {
+        let kind = self.rng.pick(&[0, 1, 2, 3, 5, 7]);
+        let mut entry = vec![kind];
+        match kind {
+            0 | 2 => {
+                let text = self.text();
+                entry.extend(self.counted_text(text, true));
+            }
+            1 => entry.extend(self.number(4)),
+            3 | 5 => entry.extend(self.number(8)),
+            _ => {
+                let digits = match self.rng.below(12) {
+                    0 => 0,
+                    1 => self.rng.between(100, 255),
+                    _ => self.small(12),
+                };
+                let length = self.count(digits);
+                entry.push(length as u8);
+                entry.extend(self.rng.bytes(digits + 1));
+            }
+        }
+        if self.odd() {
+            entry[0] = self.rng.pick(&[4, 6, 8, 9, 127, 128, 255]);
+        }
+        entry
+    }
+
+    /// The bytes of a number: any, small, or all ones but for a few bits.
+    fn number(&mut self, bytes: usize) -> Vec<u8> {
+        match self.rng.below(3) {
+            0 => self.rng.bytes(bytes),
+            1 => {
+                let mut number = vec![0; bytes];
+                let at = self.rng.below(bytes);
+                number[at] = self.rng.byte();
+                number
+            }
+            _ => {
+                let mut number = vec![255; bytes];
+                let at = self.rng.below(bytes);
+                number[at] = self.rng.byte();
+                number
+            }
+        }
+    }
+
+    /// Instructions, or any bytes.
+    fn code(&mut self) -> Vec<u8> {
+        let mut code = Vec::new();
+        if self.rng.one_in(6) {
+            let length = self.small(40);
+            return self.rng.bytes(length);
+        }
+        for _ in 0..self.small(10) {
+            let opcode = self.rng.below(OPCODES.len());
+            code.push(opcode as u8);
+            for _ in 1..OPCODES[opcode].kind.size() {
+                code.push(if self.rng.one_in(3) {
+                    self.rng.byte()
+                } else {
+                    self.rng.below(4) as u8
+                });
+            }
+        }
+        code
+    }
+
+    /// Instructions that pass examination in a record with these bounds, and where they begin.
+    fn good_code(&mut self, bound: impl Fn(Role) -> usize) -> (Vec<u8>, Vec<usize>) {
+        let mut opcodes = Vec::new();
+        let number = self.small(12);
+        while opcodes.len() < number {
+            let opcode = self.rng.below(OPCODES.len());
+            let fits = roles(&OPCODES[opcode])
+                .iter()
+                .all(|role| *role == Role::Plain || bound(*role) > 0);
+            if fits && !(115..=117).contains(&opcode) {
+                opcodes.push(opcode);
+            }
+        }
+        opcodes.push(118);
+        let mut begins = vec![0];
+        for opcode in &opcodes {
+            begins.push(begins[begins.len() - 1] + OPCODES[*opcode].kind.size());
+        }
+        let length = begins.pop().unwrap();
+        let mut code = Vec::new();
+        for opcode in opcodes {
+            let mut step = self.rng.bytes(OPCODES[opcode].kind.size());
+            step[0] = opcode as u8;
+            for (i, role) in roles(&OPCODES[opcode]).into_iter().enumerate() {
+                if role != Role::Plain {
+                    step[1 + i] = self.rng.below(bound(role).min(256)) as u8;
+                }
+            }
+            if let Flow::Jump | Flow::MayJump = flow(&OPCODES[opcode]) {
+                let next = code.len() + step.len();
+                let distance = self.rng.pick(&begins).wrapping_sub(next);
+                let at = step.len() - 2;
+                step[at..].copy_from_slice(&be2(distance));
+            }
+            code.extend(step);
+        }
+        debug_assert_eq!(code.len(), length);
+        (code, begins)
+    }
+
+    fn handler(&mut self) -> Vec<u8> {
+        let mut handler = vec![self.rng.pick(&[0, 1, 1, 2, 255])];
+        for _ in 0..3 {
+            let number = self.small(40);
+            handler.extend(if self.rng.one_in(8) {
+                self.number(4)
+            } else {
+                be4(number).to_vec()
+            });
+        }
+        handler
+    }
+
+    /// A record with these instructions, or with good or any ones; `more` is added to its stated size.
+    fn record(&mut self, rlen: usize, code: Option<&[u8]>, more: usize) -> Vec<u8> {
+        let nlocals = match self.rng.below(20) {
+            0 => self.rng.between(1, 40),
+            _ => 1 + self.small(5),
+        };
+        let nlocals = if self.odd() {
+            self.rng.pick(&[0, 0, 300, 65_535])
+        } else {
+            nlocals
+        };
+        let nregs = nlocals + self.small(8);
+        let handlers = if self.rng.one_in(3) { self.small(5) } else { 0 };
+        let constants = if self.rng.one_in(2) { self.small(8) } else { 0 };
+        let symbols = if self.rng.one_in(2) { self.small(8) } else { 0 };
+        let (code, begins) = match code {
+            Some(code) => (code.to_vec(), vec![0]),
+            None if self.rng.one_in(4) => (self.code(), vec![0]),
+            None => self.good_code(|role| match role {
+                Role::Plain => 0,
+                Role::Register => nregs,
+                Role::Pool => constants,
+                Role::Symbol => symbols,
+                Role::Child => rlen,
+            }),
+        };
+        let mut body = Vec::new();
+        body.extend(be2(nlocals));
+        body.extend(be2(nregs));
+        body.extend(be2(rlen));
+        body.extend(be2(self.count(handlers)));
+        body.extend(be4(self.count(code.len())));
+        body.extend(code);
+        for _ in 0..handlers {
+            let mut handler = self.handler();
+            if !self.rng.one_in(8) {
+                let target = self.rng.pick(&begins);
+                handler[9..].copy_from_slice(&be4(target));
+            }
+            body.extend(handler);
+        }
+        body.extend(be2(self.count(constants)));
+        for _ in 0..constants {
+            body.extend(self.constant());
+        }
+        body.extend(be2(self.count(symbols)));
+        for _ in 0..symbols {
+            let text = self.text();
+            body.extend(self.counted_text(text, true));
+        }
+        let size = self.count(body.len() + 4 + more);
+        [&be4(size)[..], &body].concat()
+    }
+
+    /// Numbers of children: of a whole tree, or any.
+    fn rlens(&mut self, count: usize) -> Vec<usize> {
+        if self.rng.one_in(6) {
+            let bound = self.rng.pick(&[2, 3, 5, 65_536]);
+            return (0..count).map(|_| self.rng.below(bound)).collect();
+        }
+        let mut left = count - 1;
+        let mut pending = 1;
+        let mut rlens = Vec::new();
+        for _ in 0..count {
+            pending -= 1;
+            let rlen = match pending {
+                0 if left > 0 => self.rng.between(1, left),
+                _ if left > 0 && self.rng.one_in(2) => self.rng.between(0, left),
+                _ => 0,
+            };
+            left -= rlen;
+            pending += rlen;
+            rlens.push(rlen);
+        }
+        rlens
+    }
+
+    /// The file header with any of the fields that are not looked at.
+    fn header(&mut self) -> Vec<u8> {
+        let mut header = b"RITE0400".to_vec();
+        header.extend(self.rng.bytes(12));
+        if self.rng.one_in(8) {
+            header[..4].copy_from_slice(&self.rng.word().to_be_bytes());
+            header[6..8].copy_from_slice(&be2(self.rng.below(65_536)));
+        }
+        if self.odd() {
+            let major = self.rng.pick(b"03");
+            header[4..6].copy_from_slice(&[major, self.rng.pick(b"0345\x04\0")]);
+        }
+        header
+    }
+
+    /// An IREP section of these records, one behind the other.
+    fn irep(&mut self, records: &[u8]) -> Vec<u8> {
+        let mut content = self.rng.bytes(4);
+        content.extend(records);
+        let size = self.count(content.len() + 8);
+        section(b"IREP", size, &content)
+    }
+
+    /// Header and IREP of a random tree.
+    fn tree(&mut self) -> Vec<u8> {
+        let count = match self.rng.below(10) {
+            0 => 1,
+            1 => self.rng.between(8, 30),
+            _ => self.rng.between(1, 7),
+        };
+        let mut records = Vec::new();
+        for rlen in self.rlens(count) {
+            let gap = if self.rng.one_in(12) {
+                self.rng.below(20)
+            } else {
+                0
+            };
+            records.extend(self.record(rlen, None, gap));
+            records.extend(self.rng.bytes(gap));
+        }
+        let mut file = self.header();
+        let irep = self.irep(&records);
+        file.extend(irep);
+        file
+    }
+
+    /// An LVAR section for these records.
+    fn lvar(&mut self, records: &[Seen]) -> Vec<u8> {
+        let strings = self.small(8);
+        let mut content = be4(self.count(strings)).to_vec();
+        for i in 0..strings {
+            let text = self.own_text(i);
+            content.extend(self.counted_text(text, false));
+        }
+        for record in &records[..visited(records)] {
+            for _ in 1..record.nlocals {
+                let index = match self.rng.below(4) {
+                    _ if self.odd() => self.rng.pick(&[strings, strings + 1, 256, 65_534, 32_768]),
+                    0 => 65_535,
+                    _ if strings == 0 => 65_535,
+                    _ => self.rng.below(strings),
+                };
+                content.extend(be2(index));
+            }
+        }
+        let size = self.count(content.len() + 8);
+        section(b"LVAR", size, &content)
+    }
+
+    /// A DBG section for these records.
+    fn dbg(&mut self, records: &[Seen]) -> Vec<u8> {
+        let names = 1 + self.small(5);
+        let mut content = be2(self.count(names)).to_vec();
+        for i in 0..names {
+            let text = self.own_text(i);
+            content.extend(self.counted_text(text, false));
+        }
+        let mut visits = visited(records);
+        if self.rng.one_in(8) {
+            // The section is used up before the walk ends.
+            visits = self.rng.below(visits + 1);
+        } else if self.rng.one_in(10) {
+            visits += self.rng.below(3);
+        }
+        for _ in 0..visits {
+            content.extend(self.debug_record(names));
+        }
+        if self.odd > 0 && self.rng.one_in(12) {
+            content.extend(self.last_positions());
+        }
+        if self.odd > 0 && self.rng.one_in(12) {
+            // The section ends inside what it holds.
+            let cut = self.rng.below(content.len().min(24) + 1);
+            content.truncate(content.len() - cut);
+        }
+        if self.rng.one_in(10) {
+            let padding = self.rng.below(12);
+            content.extend(self.rng.bytes(padding));
+        }
+        let size = self.count(content.len() + 8);
+        section(b"DBG\0", size, &content)
+    }
+
+    fn debug_record(&mut self, names: usize) -> Vec<u8> {
+        let count = match self.rng.below(8) {
+            0 => 0,
+            1..=4 => 1,
+            _ => self.rng.between(2, 4),
+        };
+        let mut start = if self.rng.one_in(3) {
+            self.small(100)
+        } else {
+            0
+        };
+        if self.rng.one_in(12) {
+            start = u32::MAX as usize - self.rng.below(12);
+        }
+        let mut content = be2(self.count(count)).to_vec();
+        for _ in 0..count {
+            content.extend(self.debug_file(start, names));
+            start += if self.odd() {
+                0
+            } else {
+                self.rng.between(1, 30)
+            };
+            start = start.min(u32::MAX as usize);
+        }
+        let size = self.count(content.len() + 4);
+        [&be4(size)[..], &content].concat()
+    }
+
+    /// A debug record of kind 0 whose lines go up to the last position or past it, with a line more or less.
+    fn last_positions(&mut self) -> Vec<u8> {
+        let before = self.rng.below(5);
+        let count = before + self.rng.between(1, 3);
+        let lines = (count + self.rng.below(3)).saturating_sub(1);
+        let mut content = vec![0, 1];
+        content.extend(be4(u32::MAX as usize - before));
+        content.extend([0, 0]);
+        content.extend(be4(count));
+        content.push(0);
+        for _ in 0..lines {
+            content.extend([0, self.rng.below(2) as u8]);
+        }
+        if self.rng.one_in(4) {
+            content.pop();
+        }
+        [&be4(content.len() + 4)[..], &content].concat()
+    }
+
+    fn debug_file(&mut self, start: usize, names: usize) -> Vec<u8> {
+        let name = if self.odd() {
+            self.rng.pick(&[names, names + 1, 65_535, 256])
+        } else {
+            self.rng.below(names)
+        };
+        let kind = self.rng.below(3);
+        let entries = match self.rng.below(10) {
+            0 => 0,
+            1 => self.rng.between(8, 60),
+            _ => self.small(8),
+        };
+        let mut data = Vec::new();
+        let mut last_pair = 0;
+        let mut line = self.small(20);
+        let mut position = start;
+        for _ in 0..entries {
+            // A line stays as it is half of the time, so that entries are dropped.
+            let change = match self.rng.below(8) {
+                0..=3 => 0,
+                4..=6 => self.rng.between(1, 9),
+                _ => self.rng.below(65_536),
+            };
+            line = (line + change) % 65_536;
+            position += self.small(12);
+            if self.rng.one_in(12) {
+                position = self.rng.word() as usize;
+            }
+            match kind {
+                0 => data.extend(be2(line)),
+                1 => {
+                    data.extend(be4(position));
+                    data.extend(be2(line));
+                }
+                _ => {
+                    let pair = [self.packed(), self.packed()].concat();
+                    last_pair = pair.len();
+                    data.extend(pair);
+                }
+            }
+        }
+        let mut count = if kind == 2 { data.len() } else { entries };
+        if last_pair > 0 && self.rng.one_in(5) {
+            // The last pair runs past the count.
+            count -= self.rng.below(last_pair);
+        }
+        let mut file = be4(start).to_vec();
+        file.extend(be2(name));
+        file.extend(be4(self.count(count)));
+        file.push(if self.odd() {
+            self.rng.pick(&[3, 4, 128, 255])
+        } else {
+            kind as u8
+        });
+        file.extend(data);
+        file
+    }
+
+    /// A packed number of every length: shortest, longer than needed, with bits above 31.
+    fn packed(&mut self) -> Vec<u8> {
+        let number = match self.rng.below(10) {
+            0..=2 => 0,
+            3..=6 => self.small(100) as u64,
+            7 => {
+                let edge = 1u64 << (7 * self.rng.between(1, 4));
+                edge - 1 + self.rng.below(3) as u64
+            }
+            8 => u64::from(u32::MAX) - self.small(40) as u64,
+            _ => u64::from(self.rng.word()),
+        };
+        let mut bytes = Vec::new();
+        let mut rest = number;
+        while rest >= 128 {
+            bytes.push((rest % 128) as u8 + 128);
+            rest /= 128;
+        }
+        bytes.push(rest as u8);
+        if self.rng.one_in(12) {
+            while bytes.len() < 5 && !self.rng.one_in(3) {
+                *bytes.last_mut().unwrap() += 128;
+                bytes.push(0);
+            }
+        }
+        if bytes.len() == 5 && self.rng.one_in(3) {
+            bytes[4] += 16 * self.rng.below(8) as u8;
+        }
+        if bytes.len() == 5 && self.odd() {
+            bytes[4] |= 128;
+        }
+        bytes
+    }
+
+    /// An END section, now and then with content.
+    fn end(&mut self) -> Vec<u8> {
+        let content = if self.rng.one_in(10) {
+            self.rng.below(12)
+        } else {
+            0
+        };
+        let content = self.rng.bytes(content);
+        let size = self.count(content.len() + 8);
+        section(b"END\0", size, &content)
+    }
+
+    /// Sections behind an IREP, in any order, and what stands behind the last.
+    fn with_sections(&mut self, mut file: Vec<u8>, debug: bool) -> Vec<u8> {
+        let records = seen(&file);
+        let mut sections = Vec::new();
+        if self.rng.one_in(2) {
+            sections.push(self.lvar(&records));
+        }
+        if debug || self.rng.one_in(3) {
+            sections.push(self.dbg(&records));
+        }
+        if self.rng.one_in(2) {
+            sections.reverse();
+        }
+        if self.rng.one_in(8) {
+            let at = self.rng.below(sections.len() + 1);
+            let end = self.end();
+            sections.insert(at, end);
+        }
+        if !self.rng.one_in(10) {
+            sections.push(self.end());
+        }
+        file.extend(sections.concat());
+        if self.rng.one_in(8) {
+            let extra = if self.odd() {
+                self.rng.below(8)
+            } else {
+                self.rng.below(4)
+            };
+            file.extend(self.rng.bytes(extra));
+        }
+        if self.odd() {
+            file.truncate(self.rng.below(file.len() + 1));
+        }
+        file
+    }
+
+    fn structured(&mut self, debug: bool) -> Vec<u8> {
+        let mut file = self.tree();
+        if self.rng.one_in(16) {
+            // END may stand before IREP.
+            let end = self.end();
+            file.splice(20..20, end);
+        }
+        self.with_sections(file, debug)
+    }
+
+    /// Records that overlap: one inside another's code, or steps smaller than a record.
+    fn overlapping(&mut self) -> Vec<u8> {
+        let mut file = self.header();
+        let mut records = Vec::new();
+        let mut cut = 0;
+        match self.rng.below(3) {
+            0 => {
+                // Each record's code begins with the next one, whose stated size passes the outer rest.
+                let mut inner = self.record(0, None, 0);
+                for _ in 0..self.rng.between(1, 5) {
+                    let rlen = self.rng.below(3);
+                    let outer = self.record(rlen, Some(&inner), 0);
+                    let rest = outer.len() - 16 - inner.len();
+                    if self.rng.one_in(2) {
+                        let size = u32::from_be_bytes(inner[..4].try_into().unwrap());
+                        let longer = size.wrapping_add(rest as u32);
+                        inner[..4].copy_from_slice(&longer.to_be_bytes());
+                    }
+                    let mut whole = outer;
+                    let at = 16;
+                    whole[at..at + inner.len()].copy_from_slice(&inner);
+                    if !self.odd() {
+                        whole[..4].copy_from_slice(&be4(16));
+                    }
+                    inner = whole;
+                }
+                records = inner;
+            }
+            1 => {
+                // A ladder: every word is the same, and the lists behind every step end among zeros.
+                let step = 4 * self.rng.between(1, 16);
+                let most = (16 + 14 * step) / 4;
+                let words = self.rng.between(step / 4, most);
+                for _ in 0..words {
+                    records.extend(be4(step));
+                }
+                let zeros = 16 + 14 * step + 8;
+                records.extend(vec![0; zeros]);
+                cut = zeros;
+                if self.odd() {
+                    cut = self.rng.below(zeros);
+                }
+            }
+            _ => {
+                // Any small stated sizes.
+                for _ in 0..self.rng.between(1, 5) {
+                    let zeros = vec![0; self.small(60)];
+                    let code = self.rng.one_in(2).then_some(&zeros[..]);
+                    let rlen = self.rng.below(2);
+                    let mut record = self.record(rlen, code, 0);
+                    if self.rng.one_in(2) {
+                        let size = self.rng.below(record.len() + 4);
+                        record[..4].copy_from_slice(&be4(size));
+                    }
+                    records.extend(record);
+                }
+            }
+        }
+        let mut content = self.rng.bytes(4);
+        content.extend(&records);
+        let size = self.count(content.len() + 8 - cut);
+        if cut > 0 {
+            // The next section begins behind the zeros only where they are one.
+            let tail = content.len() + 8 - size.min(content.len() + 8);
+            let at = content.len() - tail.min(content.len());
+            if tail >= 8 {
+                content[at..at + 8].copy_from_slice(&exact(b"END\0", &[]));
+                content[at + 4..at + 8].copy_from_slice(&be4(tail));
+            }
+        }
+        file.extend(section(b"IREP", size, &content));
+        self.with_sections(file, false)
+    }
+
+    /// Sections in any order and number, with small sizes among them.
+    fn sections(&mut self) -> Vec<u8> {
+        let mut file = self.header();
+        let mut records = Vec::new();
+        let number = self.rng.between(1, 6);
+        let mut had = [false; 3];
+        // Half of these files are good up to the last section.
+        let calm = self.rng.one_in(2);
+        if calm {
+            self.odd = 0;
+        }
+        for i in 0..number {
+            let wild = !calm && self.rng.one_in(6);
+            let mut kind = if i == 0 && (calm || !self.rng.one_in(8)) {
+                0
+            } else {
+                self.rng.below(4)
+            };
+            if !wild && kind < 3 && (had[kind] || (kind > 0 && !had[0])) {
+                kind = 3;
+            }
+            let section = match kind {
+                0 => {
+                    had[0] = true;
+                    if calm && self.rng.one_in(2) {
+                        exact(b"IREP", &[0; 4])
+                    } else if !calm && self.rng.one_in(2) {
+                        let size = self.rng.between(0, 13);
+                        let mut section = section(b"IREP", size, &[0; 4]);
+                        section.truncate(self.rng.between(8, 12).max(size.min(12)));
+                        section
+                    } else {
+                        let tree = self.tree();
+                        tree[20..].to_vec()
+                    }
+                }
+                1 => {
+                    had[1] = true;
+                    let mut section = self.lvar(&records);
+                    self.small_size(&mut section, 16, calm);
+                    section
+                }
+                2 => {
+                    had[2] = true;
+                    let mut section = self.dbg(&records);
+                    self.small_size(&mut section, 12, calm);
+                    section
+                }
+                _ => {
+                    let mut section = self.end();
+                    self.small_size(&mut section, 9, calm);
+                    section
+                }
+            };
+            file.extend(section);
+            if kind == 0 {
+                records = seen(&file);
+            }
+        }
+        if self.rng.one_in(4) {
+            let mark = self
+                .rng
+                .pick(&[b"IREP", b"LVAR", b"DBG\0", b"END\0", b"LINE"]);
+            file.extend(&mark[..self.rng.between(1, 4)]);
+            let more = self.rng.below(9);
+            file.extend(&[0, 0, 0, 8, 0, 0, 0, 0, 0][..more]);
+        }
+        file
+    }
+
+    /// Gives a section a small stated size now and then.
+    fn small_size(&mut self, section: &mut [u8], bound: usize, calm: bool) {
+        if !calm && self.rng.one_in(5) {
+            let size = self.rng.below(bound);
+            section[4..8].copy_from_slice(&be4(size));
+        }
+    }
+
+    /// Files about as long as the headers.
+    fn header_only(&mut self) -> Vec<u8> {
+        let mut file = self.header();
+        if self.rng.one_in(3) {
+            file[4..6].copy_from_slice(&self.rng.pick(&[*b"03", *b"05", *b"40", *b"0\0", *b"14"]));
+        }
+        let rest = match self.rng.below(4) {
+            0 => b"END\0\0\0\0\x0c\0\0\0\0".to_vec(),
+            1 => b"IREP\0\0\0\x0c0400END\0\0\0\0\x08".to_vec(),
+            2 => b"IREP\0\0\0\x080400".to_vec(),
+            _ => self.rng.bytes(24),
+        };
+        file.extend(rest);
+        if self.rng.one_in(2) {
+            let mut at = self.rng.pick(&[0, 19, 20, 31, 32]) + self.rng.below(3);
+            at = at.saturating_sub(1);
+            file.truncate(at);
+        } else {
+            file.truncate(self.rng.below(45));
+        }
+        file
+    }
+
+    /// A section inside the code of the last record, where the IREP section ends.
+    fn inside_code(&mut self) -> Vec<u8> {
+        let mut file = self.header();
+        let mut records = Vec::new();
+        for _ in 0..self.rng.below(3) {
+            records.extend(self.record(1, None, 0));
+        }
+        let outer = records.len();
+        let before = {
+            let mut content = vec![0; 4];
+            content.extend(&records);
+            content.extend(be4(16));
+            content.extend(be2(1 + self.small(4)));
+            content.extend([0, 9, 0, 0, 0, 0]);
+            content
+        };
+        let known = {
+            let records = [vec![0; 4], records.clone()].concat();
+            let mut known = seen(&[file.clone(), exact(b"IREP", &records)].concat());
+            known.push(Seen {
+                nlocals: usize::from(before[4 + outer + 5]),
+                rlen: 0,
+            });
+            known
+        };
+        let inner = match self.rng.below(4) {
+            0 => self.lvar(&known),
+            1 => self.dbg(&known),
+            2 => [self.lvar(&known), self.dbg(&known)].concat(),
+            _ => self.end(),
+        };
+        // The record's pool and symbol counts stand in an END section behind the inner one.
+        let tail = [&b"END\0"[..], &be4(self.count(8 + 8)), &[0; 8]].concat();
+        let code = inner.len() + 8;
+        let size = self.count(8 + before.len() + 4);
+        file.extend(section(b"IREP", size, &before));
+        file.extend(be4(code));
+        file.extend(inner);
+        file.extend(tail);
+        if self.rng.one_in(3) {
+            file.extend(self.end());
+        }
+        file
+    }
+
+    /// Files about as long as the limit.
+    fn long(&mut self) -> Vec<u8> {
+        let length = self.rng.pick(&[
+            65_536, 65_536, 65_536, 65_535, 65_530, 65_537, 65_537, 65_540, 70_000,
+        ]);
+        let mut file = self.header();
+        if self.rng.one_in(2) {
+            // A long code, text or big table fills the file.
+            let room = length - 20 - 12 - 20 - 8;
+            let code = match self.rng.below(3) {
+                0 => self.rng.bytes(room),
+                _ => vec![0; room],
+            };
+            let mut record = vec![0, 0, 0, 0, 0, 1, 0, 1, 0, 0, 0, 0];
+            record.extend(be4(self.count(room)));
+            record.extend(code);
+            record.extend([0; 4]);
+            let size = record.len();
+            record[..4].copy_from_slice(&be4(size));
+            let irep = self.irep(&record);
+            file.extend(irep);
+            file.extend(self.end());
+        } else {
+            let tree = self.tree();
+            file = self.with_sections(tree, true);
+            if file.len() + 8 < length {
+                let rest = length - file.len();
+                file.extend(section(b"END\0", rest, &vec![0; rest - 8]));
+            }
+        }
+        file
+    }
+
+    /// About as many records as the limit.
+    fn many_records(&mut self) -> Vec<u8> {
+        let count = match self.rng.below(6) {
+            0 => 1_024,
+            1 => 1_025,
+            _ => self.rng.between(1_015, 1_030),
+        };
+        let chain = self.rng.below(3);
+        let mut records = Vec::new();
+        for i in 0..count {
+            let rlen = match chain {
+                0 => usize::from(i + 1 < count),
+                1 if i == 0 => count - 1,
+                _ => 0,
+            };
+            records.extend([0, 0, 0, 20, 0, 1, 0, 1]);
+            records.extend(be2(rlen));
+            records.extend([0; 10]);
+        }
+        let mut file = self.header();
+        let irep = self.irep(&records);
+        file.extend(irep);
+        if self.rng.one_in(2) {
+            let records = seen(&file);
+            file.extend(self.lvar(&records));
+        }
+        if self.rng.one_in(2) {
+            let visits = self.rng.between(1_000, 1_024);
+            let mut content = vec![0, 0];
+            for _ in 0..visits {
+                content.extend([0, 0, 0, 6, 0, 0]);
+            }
+            file.extend(exact(b"DBG\0", &content));
+        }
+        file.extend(self.end());
+        file
+    }
+
+    /// Records that claim many children.
+    fn many_children(&mut self) -> Vec<u8> {
+        let mut records = Vec::new();
+        if self.rng.one_in(400) {
+            // The most visits that a file can ask for.
+            for _ in 0..1_024 {
+                records.extend([0, 0, 0, 20, 0, 1, 0, 0, 255, 255]);
+                records.extend([0; 10]);
+            }
+        } else {
+            for _ in 0..self.rng.between(1, 40) {
+                let rlen = self.rng.pick(&[1, 2, 300, 65_535, 65_535]);
+                records.extend(self.record(rlen, None, 0));
+            }
+        }
+        let mut file = self.header();
+        let irep = self.irep(&records);
+        file.extend(irep);
+        self.with_sections(file, true)
+    }
+
+    /// Any bytes behind a header and, most of the time, a mark.
+    fn any_bytes(&mut self) -> Vec<u8> {
+        let mut file = self.header();
+        if !self.rng.one_in(4) {
+            file.extend(b"IREP");
+            file.extend(be4(self.rng.between(12, 60)));
+        }
+        let number = self.rng.below(200);
+        let mut rest = self.rng.bytes(number);
+        if self.rng.one_in(2) {
+            for byte in &mut rest {
+                *byte %= 4;
+            }
+        }
+        file.extend(rest);
+        file
+    }
+
+    /// A file with one to four changes.
+    fn damaged(&mut self, mut file: Vec<u8>) -> Vec<u8> {
+        for _ in 0..self.rng.pick(&[1, 1, 1, 2, 2, 3, 4]) {
+            self.damage(&mut file);
+        }
+        file
+    }
+
+    fn damage(&mut self, file: &mut Vec<u8>) {
+        if file.len() < 8 {
+            return;
+        }
+        let from = self.rng.pick(&[0, 20, 20, 20, 32, 32]).min(file.len() - 8);
+        let at = self.rng.between(from, file.len() - 4);
+        match self.rng.below(14) {
+            0 | 1 => file[at] ^= 1 << self.rng.below(8),
+            2 | 3 => file[at] = self.rng.pick(&[0, 1, 2, 3, 4, 7, 127, 128, 254, 255]),
+            4 => file[at] = self.rng.byte(),
+            5 => file[at] = file[at].wrapping_add(self.rng.pick(&[1, 255])),
+            6 => {
+                let number = self.number(4);
+                file[at..at + 4].copy_from_slice(&number);
+            }
+            7 => {
+                let number = self.count(0);
+                file[at..at + 2].copy_from_slice(&be2(number));
+            }
+            8 => file.truncate(at),
+            9 => {
+                let more = self.small(6);
+                let bytes = self.rng.bytes(more);
+                file.splice(at..at, bytes);
+            }
+            10 => {
+                let end = (at + 1 + self.small(6)).min(file.len());
+                file.drain(at..end);
+            }
+            11 => {
+                let length = self.small(24).min(file.len() - at);
+                let copy = file[at..at + length].to_vec();
+                let to = self.rng.between(20.min(file.len()), file.len());
+                file.splice(to..to, copy);
+            }
+            _ => self.damage_section(file),
+        }
+    }
+
+    /// Changes a section's size, doubles it, drops it, or moves it to the end.
+    fn damage_section(&mut self, file: &mut Vec<u8>) {
+        let mut parts = Vec::new();
+        let mut start = 20;
+        while start + 8 <= file.len() {
+            let size = u32::from_be_bytes(file[start + 4..start + 8].try_into().unwrap()) as usize;
+            if size < 8 || start + size > file.len() {
+                break;
+            }
+            parts.push((start, size));
+            start += size;
+        }
+        if parts.is_empty() {
+            return;
+        }
+        let (start, size) = parts[self.rng.below(parts.len())];
+        let part = file[start..start + size].to_vec();
+        match self.rng.below(6) {
+            0 => {
+                let other = self
+                    .rng
+                    .pick(&[0, 1, 4, 7, 8, 9, 10, 11, 12, 13, size + 1, size - 1]);
+                file[start + 4..start + 8].copy_from_slice(&be4(other));
+            }
+            1 => {
+                let other = file.len() - start + self.rng.below(3) - 1;
+                file[start + 4..start + 8].copy_from_slice(&be4(other));
+            }
+            2 => file.extend(part),
+            3 => {
+                file.drain(start..start + size);
+            }
+            4 => {
+                file.drain(start..start + size);
+                file.extend(part);
+            }
+            _ => {
+                let end = exact(b"END\0", &[]);
+                file.splice(start..start, end);
+            }
+        }
+    }
+}

@@ -1,0 +1,462 @@
+//! Loads by every subject and by the original, held against each other.
+
+use crate::Stop;
+use crate::args::Args;
+use crate::expected;
+use crate::generate::{FAMILIES, Generator};
+use crate::oracle::{self, Outcome};
+use crate::rng::Rng;
+use crate::subject::{Subject, first_difference, subjects};
+use model::{Entry, NAMES, ROW_WORDS, Record, Refusal, Rows, Sizes, Tables};
+use original::Error;
+use std::collections::BTreeMap;
+use std::path::PathBuf;
+use std::sync::Mutex;
+use std::time::{Duration, Instant};
+use std::{env, fs, process, thread};
+
+/// The refusals on which the original's `load` is not called: outside the domain, or it never ends.
+const NOT_CALLED: [Refusal; 4] = [1, 6, 8, 14];
+
+/// What is counted over the files of a run.
+#[derive(Default)]
+pub struct Counts {
+    files: u64,
+    by_number: [u64; 15],
+    by_end: BTreeMap<(Refusal, &'static str), u64>,
+    by_family: [[u64; 2]; FAMILIES.len()],
+    rows: [u64; 9],
+    used: [u64; 9],
+    pool_kinds: [u64; 8],
+    shapes: BTreeMap<&'static str, u64>,
+    lent: BTreeMap<&'static str, u64>,
+}
+
+impl Counts {
+    /// The counts in words.
+    pub fn words(&self) -> String {
+        let mut text = format!("files: {}\n", self.files);
+        for (number, files) in self.by_number.iter().enumerate() {
+            let ends: Vec<String> = self
+                .by_end
+                .iter()
+                .filter(|((n, _), _)| *n == number as Refusal)
+                .map(|((_, end), files)| format!("{end} {files}"))
+                .collect();
+            let name = match number {
+                0 => "loaded".to_owned(),
+                n => format!("refused {n}"),
+            };
+            let end = match number {
+                _ if *files == 0 => "never met".to_owned(),
+                1 => "outside the domain".to_owned(),
+                _ if ends.is_empty() => "load not called, its readers one by one".to_owned(),
+                _ => ends.join(", "),
+            };
+            text += &format!("  {name:<11}{files:>9}  {end}\n");
+        }
+        let called: u64 = self.by_end.values().sum();
+        text += &format!("held against the original's load: {called}\n");
+        if self.by_family.iter().flatten().any(|files| *files > 0) {
+            text += "families (files, loaded):\n";
+            for (name, [files, loaded]) in FAMILIES.iter().zip(self.by_family) {
+                text += &format!("  {name:<20}{files:>9}{loaded:>9}\n");
+            }
+        }
+        text += "rows of loaded files (rows, files that have some):\n";
+        for (t, name) in NAMES.iter().enumerate() {
+            let (rows, files) = (self.rows[t], self.used[t]);
+            text += &format!("  {name:<20}{rows:>9}{files:>9}\n");
+        }
+        text += &format!("constants by kind: {:?}\n", self.pool_kinds);
+        text += "shapes of loaded files:\n";
+        for (shape, files) in &self.shapes {
+            text += &format!("  {shape:<22}{files:>7}\n");
+        }
+        text += &format!("loads over lent tables of other sizes: {:?}\n", self.lent);
+        text
+    }
+
+    /// Counts what makes a loaded file special.
+    fn count_shapes(&mut self, file: &[u8], rows: &Rows) {
+        let records = &rows.records.rows;
+        let mut has = |shape, yes| *self.shapes.entry(shape).or_default() += u64::from(yes);
+        // A record takes its code and four bytes of counts at least.
+        let overlaps = |two: &[Record]| two[1].place - 16 < two[0].place + two[0].ilen + 4;
+        has("overlapping records", records.windows(2).any(overlaps));
+        has("stated size too small", records.iter().any(|r| r.size < 20));
+        has(
+            "several debug files",
+            records.iter().any(|r| r.files.number > 1),
+        );
+        let falls = |map: &[Entry]| map.windows(2).any(|two| two[1].position < two[0].position);
+        let maps = |r: &Record| falls(r.lines.of(&rows.lines.rows));
+        has("falling positions", records.iter().any(maps));
+        let lvar = expected::section(file, b"LVAR");
+        let dbg = expected::section(file, b"DBG\0");
+        has("LVAR before DBG", lvar.is_some() && lvar < dbg);
+        has("DBG before LVAR", dbg.is_some() && dbg < lvar);
+        let unnamed = |r: &Record| r.nlocals != 1 && r.names.number == 0;
+        has(
+            "unvisited by LVAR",
+            lvar.is_some() && records.iter().any(unnamed),
+        );
+        has("passing", model::passes(file, rows).is_ok());
+    }
+
+    fn count(&mut self, number: Refusal, end: Option<&'static str>, tables: &Tables) {
+        self.files += 1;
+        self.by_number[number as usize] += 1;
+        if let Some(end) = end {
+            *self.by_end.entry((number, end)).or_default() += 1;
+        }
+        if number != 0 {
+            return;
+        }
+        for row in tables[2].chunks_exact(3) {
+            // An unused row has length 0 at place 0.
+            if row[1] > 0 {
+                self.pool_kinds[row[0] as usize] += 1;
+            }
+        }
+    }
+}
+
+/// The kind of an outcome's end.
+fn end_of(outcome: &Outcome) -> &'static str {
+    match outcome {
+        Outcome::Loaded(_) => "Ok",
+        Outcome::Panicked(_) => "panic",
+        Outcome::Refused(error) => match error {
+            Error::General => "General",
+            Error::TooShort => "TooShort",
+            Error::InvalidFormat => "InvalidFormat",
+            Error::InvalidOpCode => "InvalidOpCode",
+            Error::UnsupportedVersion(_) => "UnsupportedVersion",
+            Error::UnknownPoolType(_) => "UnknownPoolType",
+            Error::Internal(_) => "internal",
+        },
+    }
+}
+
+/// The file that is at work, for the watch.
+static AT_WORK: Mutex<Option<(Instant, Vec<u8>)>> = Mutex::new(None);
+
+/// Ends the process where one file takes too long.
+pub fn watch() {
+    thread::spawn(|| {
+        loop {
+            thread::sleep(Duration::from_secs(1));
+            let at_work = AT_WORK.lock().unwrap();
+            if let Some((since, file)) = &*at_work
+                && since.elapsed() > Duration::from_secs(60)
+            {
+                println!("DIFFERENCE\nno end within a minute\nfile {}", hex(file));
+                process::exit(1);
+            }
+        }
+    });
+}
+
+/// The corpus, where it is there, by name.
+pub fn corpus() -> Vec<(String, Vec<u8>)> {
+    let folder = match env::var_os("BLOTHEATH_CORPUS") {
+        Some(folder) => PathBuf::from(folder),
+        None => PathBuf::from(env!("CARGO_MANIFEST_DIR")).join("../../../shared/corpus"),
+    };
+    let mut files = Vec::new();
+    for entry in fs::read_dir(folder).into_iter().flatten().flatten() {
+        let path = entry.path();
+        if path.extension().is_some_and(|e| e == "mrb")
+            && let Ok(bytes) = fs::read(&path)
+        {
+            files.push((entry.file_name().to_string_lossy().into_owned(), bytes));
+        }
+    }
+    files.sort();
+    files
+}
+
+pub fn hex(bytes: &[u8]) -> String {
+    bytes.iter().map(|b| format!("{b:02x}")).collect()
+}
+
+fn difference(what: &str, file: &[u8], why: &str) -> Stop {
+    Stop::Difference(format!(
+        "{what}, {} bytes\n{why}\nfile {}",
+        file.len(),
+        hex(file)
+    ))
+}
+
+/// `compare load`
+pub fn generated(args: &Args) -> Result<(), Stop> {
+    args.only(&["--files", "--seed", "--first"])
+        .map_err(Stop::Usage)?;
+    let files = args.number("--files", 100_000).map_err(Stop::Usage)?;
+    let seed = args.number("--seed", 1).map_err(Stop::Usage)?;
+    let first = args.number("--first", 0).map_err(Stop::Usage)?;
+    watch();
+    let subjects = subjects();
+    let mut counts = Counts::default();
+    let corpus = corpus();
+    if first == 0 {
+        for (i, (name, file)) in corpus.iter().enumerate() {
+            let mut rng = Rng::new(seed, u64::MAX - i as u64);
+            one(&subjects, file, &mut rng, &mut counts)
+                .map_err(|why| difference(name, file, &why))?;
+        }
+    }
+    println!(
+        "seed {seed}, {} corpus files, {files} generated",
+        corpus.len()
+    );
+    let generator = Generator {
+        corpus: corpus.into_iter().map(|(_, file)| file).collect(),
+    };
+    for index in first..first + files {
+        let (family, file) = generator.file(seed, index);
+        let mut rng = Rng::new(!seed, index);
+        let number = one(&subjects, &file, &mut rng, &mut counts).map_err(|why| {
+            let what = format!("seed {seed} index {index} ({})", FAMILIES[family]);
+            difference(&what, &file, &why)
+        })?;
+        counts.by_family[family][0] += 1;
+        counts.by_family[family][1] += u64::from(number == 0);
+    }
+    report(&subjects, &counts);
+    Ok(())
+}
+
+/// `compare make`
+pub fn make(args: &Args) -> Result<(), Stop> {
+    args.only(&["--files", "--seed", "--first", "--number", "-o"])
+        .map_err(Stop::Usage)?;
+    let files = args.number("--files", 100).map_err(Stop::Usage)?;
+    let seed = args.number("--seed", 1).map_err(Stop::Usage)?;
+    let first = args.number("--first", 0).map_err(Stop::Usage)?;
+    let wanted = args.text("--number").map(|_| args.number("--number", 0));
+    let wanted = wanted.transpose().map_err(Stop::Usage)?;
+    let folder = args.text("-o").ok_or(Stop::Usage("-o is missing".into()))?;
+    let generator = Generator {
+        corpus: corpus().into_iter().map(|(_, file)| file).collect(),
+    };
+    let mut written = 0;
+    for index in first..first + files {
+        let (_, file) = generator.file(seed, index);
+        let number = model::read(&file, [usize::MAX; 9]).end.err().unwrap_or(0);
+        if wanted.is_some_and(|wanted| wanted != u64::from(number)) {
+            continue;
+        }
+        let path = PathBuf::from(folder).join(format!("{seed}-{index}-{number}.mrb"));
+        fs::write(&path, file)
+            .map_err(|error| Stop::Usage(format!("{}: {error}", path.display())))?;
+        written += 1;
+    }
+    println!("{written} files in {folder}");
+    Ok(())
+}
+
+/// `compare damage`
+pub fn damaged() -> Result<(), Stop> {
+    watch();
+    let corpus = corpus();
+    if corpus.is_empty() {
+        return Err(Stop::Usage("the corpus is not there".to_owned()));
+    }
+    let subjects = subjects();
+    let mut counts = Counts::default();
+    let mut rng = Rng::new(0, 0);
+    for (name, file) in &corpus {
+        let mut hold = |file: &[u8], what: String| {
+            one(&subjects, file, &mut rng, &mut counts).map_err(|why| difference(&what, file, &why))
+        };
+        for length in 0..=file.len() {
+            hold(&file[..length], format!("{name} cut to {length}"))?;
+        }
+        let mut changed = file.clone();
+        for at in 0..file.len() {
+            let byte = file[at];
+            let mut others = vec![0, 1, 2, 3, 4, 7, 127, 128, 255];
+            others.extend([byte.wrapping_add(1), byte.wrapping_sub(1), byte ^ 32]);
+            others.sort();
+            others.dedup();
+            for other in others.into_iter().filter(|other| *other != byte) {
+                changed[at] = other;
+                hold(&changed, format!("{name} with {other} at {at}"))?;
+            }
+            changed[at] = byte;
+        }
+    }
+    report(&subjects, &counts);
+    Ok(())
+}
+
+/// `compare file`
+pub fn files(args: &Args) -> Result<(), Stop> {
+    args.only(&[]).map_err(Stop::Usage)?;
+    watch();
+    let subjects = subjects();
+    let mut counts = Counts::default();
+    for path in &args.paths {
+        let file =
+            fs::read(path).map_err(|error| Stop::Usage(format!("{}: {error}", path.display())))?;
+        let mut rng = Rng::new(0, 0);
+        let number = one(&subjects, &file, &mut rng, &mut counts)
+            .map_err(|why| difference(&path.display().to_string(), &file, &why))?;
+        match number {
+            0 => println!("{}: loads", path.display()),
+            n => println!("{}: refused {n}", path.display()),
+        }
+    }
+    report(&subjects, &counts);
+    Ok(())
+}
+
+fn report(subjects: &[Box<dyn Subject>], counts: &Counts) {
+    let names: Vec<&str> = subjects.iter().map(|subject| subject.name()).collect();
+    print!("subjects: {}\n{}", names.join(", "), counts.words());
+    println!("no difference");
+}
+
+/// Tables of these sizes that hold anything.
+pub fn garbage(sizes: &Sizes, rng: &mut Rng) -> Tables {
+    let word = rng.word() | 1;
+    sizes.0.map(|words| vec![word; words])
+}
+
+/// Holds every subject against the original on one file; answers the number.
+pub fn one(
+    subjects: &[Box<dyn Subject>],
+    file: &[u8],
+    rng: &mut Rng,
+    counts: &mut Counts,
+) -> Result<Refusal, String> {
+    *AT_WORK.lock().unwrap() = Some((Instant::now(), file.to_vec()));
+    let reading = model::read(file, [usize::MAX; 9]);
+    let needed = reading.rows.used();
+    let number = reading.end.err().unwrap_or(0);
+    let exact = oracle::number(file);
+    if exact != number {
+        return Err(format!(
+            "the model answers {number}, the original's readers {exact}"
+        ));
+    }
+    let called = !NOT_CALLED.contains(&number);
+    let outcome = called.then(|| oracle::load(file));
+    if let Some(outcome) = &outcome
+        && !outcome.is_named(number)
+    {
+        return Err(format!(
+            "the model answers {number}, the original {}",
+            outcome.words()
+        ));
+    }
+    for subject in subjects {
+        let rows = needed.map(|rows| rows + rng.below(3));
+        let mut sizes = Sizes::of_rows(rows);
+        for (words, row) in sizes.0.iter_mut().zip(ROW_WORDS) {
+            *words += rng.below(row);
+        }
+        let mut tables = garbage(&sizes, rng);
+        let answer = subject.load(file, &mut tables);
+        let name = subject.name();
+        if answer.refusal != number {
+            return Err(format!("{name} answers {}, not {number}", answer.refusal));
+        }
+        match &outcome {
+            Some(Outcome::Loaded(rite)) => {
+                expected::compare(&**subject, file, rite, &answer, &tables)
+                    .map_err(|why| format!("{name} and the original: {why}"))?;
+            }
+            _ => {
+                if answer.rows != [0; 9] || tables.iter().flatten().any(|w| *w != 0) {
+                    return Err(format!("{name} refuses and leaves rows"));
+                }
+            }
+        }
+        if subject.name() == "model" {
+            counts.count(number, outcome.as_ref().map(end_of), &tables);
+            if number == 0 {
+                counts.count_shapes(file, &reading.rows);
+                for (t, rows) in answer.rows.iter().enumerate() {
+                    counts.rows[t] += u64::from(*rows);
+                    counts.used[t] += u64::from(*rows > 0);
+                }
+            }
+        }
+    }
+    let sizes = other_sizes(needed, rng);
+    lent(subjects, file, number, needed, &sizes, rng, counts)?;
+    Ok(number)
+}
+
+/// Sizes around those that are needed: none, too short, no multiple of the row, longer.
+pub fn other_sizes(needed: [usize; 9], rng: &mut Rng) -> Sizes {
+    let mut sizes = Sizes::of_rows(needed);
+    if rng.one_in(8) {
+        return Sizes([0; 9]);
+    }
+    let often = rng.pick(&[1, 2, 9]);
+    for (words, row) in sizes.0.iter_mut().zip(ROW_WORDS) {
+        if !rng.one_in(often) {
+            *words += rng.below(3 * row);
+            continue;
+        }
+        *words = match rng.below(5) {
+            0 => 0,
+            1 => words.saturating_sub(row),
+            2 => words.saturating_sub(1),
+            3 => rng.below(*words + 1),
+            _ => *words + rng.below(2 * row),
+        };
+    }
+    sizes
+}
+
+/// Holds every subject over other sizes against the rule for 14, and against the model word for word.
+fn lent(
+    subjects: &[Box<dyn Subject>],
+    file: &[u8],
+    number: Refusal,
+    needed: [usize; 9],
+    sizes: &Sizes,
+    rng: &mut Rng,
+    counts: &mut Counts,
+) -> Result<(), String> {
+    let rows = sizes.rows();
+    let fits = (0..9).all(|t| needed[t] <= rows[t]);
+    // The rows that were needed up to the end are those that must fit.
+    let right = if fits { number } else { 14 };
+    let kind = match (fits, number) {
+        (false, _) => "too short",
+        (true, 0) => "loaded",
+        (true, _) => "refused",
+    };
+    *counts.lent.entry(kind).or_default() += 1;
+    let loaded = model::load(file, sizes);
+    if loaded.refusal != right {
+        return Err(format!(
+            "over {:?} words the model answers {}, not {right}",
+            sizes.0, loaded.refusal
+        ));
+    }
+    for subject in subjects {
+        let mut tables = garbage(sizes, rng);
+        let answer = subject.load(file, &mut tables);
+        let name = subject.name();
+        if (answer.refusal, answer.rows) != (loaded.refusal, loaded.rows) {
+            return Err(format!(
+                "over {:?} words {name} answers {answer:?}, the model {} and {:?}",
+                sizes.0, loaded.refusal, loaded.rows
+            ));
+        }
+        if let Some(difference) = first_difference(&tables, &loaded.tables) {
+            return Err(format!(
+                "over {:?} words {name} and the model: {difference}",
+                sizes.0
+            ));
+        }
+    }
+    Ok(())
+}

@@ -1,0 +1,80 @@
+//! Holds paper 01's model, and the port where it is linked, against the original.
+
+mod args;
+mod expected;
+mod fetch;
+mod generate;
+mod lines;
+mod load;
+mod oracle;
+#[cfg(feature = "port")]
+mod port;
+mod quiet;
+mod rng;
+mod store;
+mod subject;
+
+use std::process::ExitCode;
+
+const USAGE: &str = "\
+compare load --files N --seed S [--first I]   generated files, the corpus first
+compare damage                                every cut and many changes of the corpus
+compare make --files N --seed S [--first I] [--number R] -o FOLDER
+                                              writes generated files, of one answer only
+compare file PATH..                           these files
+compare fetch [--seed S]                      every first byte with every length
+compare line [--maps N] [--seed S]            maps and positions, falling ones too
+compare store --seed S --count N -o FILE      writes stored reference answers
+compare replay PATH..                         replays stored reference answers
+
+BLOTHEATH_CORPUS names the folder of real files; ../shared/corpus beside the repository if it is not set.
+Exit status: 0 without a difference, 1 with one, 2 for usage or a file that is not there.";
+
+/// Why a command ends early.
+pub enum Stop {
+    /// The two sides differ; the report says where.
+    Difference(String),
+    /// The command can't be carried out.
+    Usage(String),
+}
+
+fn run() -> Result<(), Stop> {
+    let args = args::Args::read(std::env::args().skip(1)).map_err(Stop::Usage)?;
+    match args.command.as_str() {
+        "load" => load::generated(&args),
+        "damage" => load::damaged(),
+        "make" => load::make(&args),
+        "file" => load::files(&args),
+        "fetch" => fetch::compare(&args),
+        "line" => lines::compare(&args),
+        "store" => store::write(&args),
+        "replay" => store::replay(&args),
+        "help" | "--help" | "-h" => {
+            println!("{USAGE}");
+            Ok(())
+        }
+        other => Err(Stop::Usage(format!("no command {other:?}"))),
+    }
+}
+
+fn main() -> ExitCode {
+    if let Err(error) = quiet::silence() {
+        println!("the error output can't be silenced: {error}");
+        return ExitCode::from(2);
+    }
+    if quiet::inside(original::checks_overflow) != Ok(true) {
+        println!("the original is built without overflow checks");
+        return ExitCode::from(2);
+    }
+    match run() {
+        Ok(()) => ExitCode::SUCCESS,
+        Err(Stop::Difference(report)) => {
+            println!("DIFFERENCE\n{report}");
+            ExitCode::from(1)
+        }
+        Err(Stop::Usage(text)) => {
+            println!("{text}\n\n{USAGE}");
+            ExitCode::from(2)
+        }
+    }
+}

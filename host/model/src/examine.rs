@@ -1,0 +1,153 @@
+//! Examination: 15 over the tree, then 16 to 20 record by record.
+
+use crate::Refusal;
+use crate::insn::{Flow, OPCODES, Role, fetch, flow, roles};
+use crate::load::read;
+use crate::rows::{Loaded, Record, Rows, Sizes};
+
+/// Loads a file and examines it; a file that passes answers what its load answers.
+pub fn examine(file: &[u8], lent: &Sizes) -> Loaded {
+    let reading = read(file, lent.rows());
+    match reading.end.and_then(|()| passes(file, &reading.rows)) {
+        Ok(()) => reading.rows.loaded(lent),
+        Err(number) => Loaded::refused(number, lent),
+    }
+}
+
+/// Examines a loaded file; a file that passes "meets none of 15 to 20".
+pub fn passes(file: &[u8], rows: &Rows) -> Result<(), Refusal> {
+    let records = &rows.records.rows;
+    let rlens: Vec<u32> = records.iter().map(|r| r.rlen).collect();
+    if !is_whole(&rlens) {
+        return Err(15);
+    }
+    for record in records {
+        examine_record(file, rows, record)?;
+    }
+    Ok(())
+}
+
+/// "the rlens of all records sum to the count minus 1 and, for every m from 1 to count - 1, the first m sum to at least m"
+pub fn is_whole(rlens: &[u32]) -> bool {
+    let sum = |m: usize| rlens[..m].iter().map(|r| u64::from(*r)).sum::<u64>();
+    let count = rlens.len();
+    sum(count) + 1 == count as u64 && (1..count).all(|m| sum(m) >= m as u64)
+}
+
+/// "Child 0 of r is r + 1; the next child starts where the previous one's subtree ends."
+pub fn child(rlens: &[u32], record: usize, number: u32) -> usize {
+    let mut child = record + 1;
+    for _ in 0..number {
+        child = subtree_end(rlens, child);
+    }
+    child
+}
+
+/// The first record behind a record's subtree.
+fn subtree_end(rlens: &[u32], record: usize) -> usize {
+    child(rlens, record, rlens[record])
+}
+
+/// The instruction bytes of a record.
+pub(crate) fn code<'a>(file: &'a [u8], record: &Record) -> &'a [u8] {
+    &file[record.place as usize..][..record.ilen as usize]
+}
+
+/// An instruction of a record.
+#[derive(Debug, Clone, Copy)]
+pub(crate) struct Step {
+    pub offset: usize,
+    pub opcode: usize,
+    pub operands: [u32; 3],
+    pub next: usize,
+}
+
+impl Step {
+    /// "go to the next offset plus the signed 16-bit S", which JMP and JMPUW have first and the others second.
+    pub fn target(&self) -> Option<i64> {
+        let distance = match flow(&OPCODES[self.opcode]) {
+            Flow::Jump => self.operands[0],
+            Flow::MayJump => self.operands[1],
+            Flow::Next | Flow::Ends => return None,
+        };
+        let signed = if distance < 32_768 {
+            i64::from(distance)
+        } else {
+            i64::from(distance) - 65_536
+        };
+        Some(self.next as i64 + signed)
+    }
+}
+
+/// The instruction at an offset, or 16.
+pub(crate) fn step_at(code: &[u8], offset: usize) -> Result<Step, Refusal> {
+    let fetched = fetch(&code[offset..]).map_err(|_| 16u32)?;
+    let opcode = usize::from(code[offset]);
+    // "a prefix opcode (115 to 117)"
+    if (115..=117).contains(&opcode) {
+        return Err(16);
+    }
+    Ok(Step {
+        offset,
+        opcode,
+        operands: fetched.operands(),
+        next: offset + fetched.kind().size(),
+    })
+}
+
+/// "an instruction begins at 0, and at each next offset that reading from 0 reaches, while below ilen"
+fn steps(code: &[u8]) -> Result<Vec<Step>, Refusal> {
+    if code.is_empty() {
+        return Err(16);
+    }
+    let mut steps = Vec::new();
+    let mut offset = 0;
+    while offset < code.len() {
+        let step = step_at(code, offset)?;
+        offset = step.next;
+        steps.push(step);
+    }
+    Ok(steps)
+}
+
+fn examine_record(file: &[u8], rows: &Rows, record: &Record) -> Result<(), Refusal> {
+    let steps = steps(code(file, record))?;
+    let begins = |offset: i64| {
+        steps
+            .binary_search_by_key(&offset, |step| step.offset as i64)
+            .is_ok()
+    };
+    for step in &steps {
+        let opcode = &OPCODES[step.opcode];
+        for (operand, role) in step.operands.into_iter().zip(roles(opcode)) {
+            let bound = match role {
+                Role::Plain => continue,
+                Role::Register => record.nregs,
+                Role::Pool => record.pool.number,
+                Role::Symbol => record.symbols.number,
+                Role::Child => record.rlen,
+            };
+            if operand >= bound {
+                return Err(17);
+            }
+        }
+        if step.target().is_some_and(|target| !begins(target)) {
+            return Err(18);
+        }
+        // "the next offset of a neither ending nor JMP nor JMPUW instruction"
+        let goes_on = matches!(flow(opcode), Flow::Next | Flow::MayJump);
+        if goes_on && !begins(step.next as i64) {
+            return Err(18);
+        }
+    }
+    for handler in record.handlers.of(&rows.handlers.rows) {
+        if !begins(handler.target.into()) {
+            return Err(19);
+        }
+    }
+    let map = record.lines.of(&rows.lines.rows);
+    if map.windows(2).any(|two| two[1].position < two[0].position) {
+        return Err(20);
+    }
+    Ok(())
+}

@@ -1,0 +1,40 @@
+//! Paper 01 as plain Rust, written from the paper: slow, readable, without any `unsafe`.
+//!
+//! Comments in quotation marks are the paper's own words.
+//! A refusal is its number; 0 stands for none where a number is answered.
+
+#![forbid(unsafe_code)]
+
+mod examine;
+mod follow;
+mod insn;
+mod line;
+mod load;
+mod lookup;
+mod rows;
+
+pub use examine::{child, examine, is_whole, passes};
+pub use follow::{Choice, Followed, choices, follow};
+pub use insn::{Fetched, Flow, Kind, OPCODES, Opcode, Role, fetch, flow, roles};
+pub use line::{Packed, line_at, packed};
+pub use load::{Reading, load, read};
+pub use lookup::{
+    Constant, FoundFile, FoundHandler, FoundText, debug_file, handler, instructions, line, name,
+    pool, symbol,
+};
+pub use rows::{
+    DebugFile, Entry, Handler, Loaded, NAMES, Name, PoolRow, ROW_WORDS, Record, Rows, Sizes, Span,
+    Table, Tables, Text,
+};
+
+/// A refusal's number.
+pub type Refusal = u32;
+
+/// The longest file, in bytes.
+pub const FILE_LIMIT: usize = 65_536;
+
+/// The largest number of records.
+pub const RECORD_LIMIT: usize = 1_024;
+
+/// A name index that stands for no name.
+pub const UNNAMED: u32 = 65_535;

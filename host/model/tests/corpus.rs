@@ -1,0 +1,97 @@
+//! The files of the corpus, where it is there.
+
+use model::*;
+use std::path::PathBuf;
+use std::{env, fs};
+
+/// The names and bytes of the corpus, none where it is not there.
+fn corpus() -> Vec<(String, Vec<u8>)> {
+    let folder = match env::var_os("BLOTHEATH_CORPUS") {
+        Some(folder) => PathBuf::from(folder),
+        None => PathBuf::from(env!("CARGO_MANIFEST_DIR")).join("../../../shared/corpus"),
+    };
+    let Ok(entries) = fs::read_dir(&folder) else {
+        println!("no corpus at {}", folder.display());
+        return Vec::new();
+    };
+    let mut files = Vec::new();
+    for entry in entries {
+        let path = entry.unwrap().path();
+        if path.extension().is_some_and(|e| e == "mrb") {
+            let name = path.file_stem().unwrap().to_string_lossy().into_owned();
+            files.push((name, fs::read(&path).unwrap()));
+        }
+    }
+    files.sort();
+    files
+}
+
+/// Tables that fit the file exactly.
+fn exact(file: &[u8]) -> Sizes {
+    Sizes::of_rows(read(file, [usize::MAX; 9]).rows.used())
+}
+
+#[test]
+fn all_but_four_pass() {
+    for (name, file) in corpus() {
+        let expected = match name.as_str() {
+            "25_zero_in_string" | "25_zero_in_string-g" => 9,
+            "27_wide_operands" | "27_wide_operands-g" => 16,
+            _ => 0,
+        };
+        assert_eq!(examine(&file, &exact(&file)).refusal, expected, "{name}");
+    }
+}
+
+#[test]
+fn lookups_answer_throughout() {
+    for (name, file) in corpus() {
+        let loaded = load(&file, &exact(&file));
+        let t = &loaded.tables;
+        for r in 0..loaded.rows[0] {
+            let row = &t[0][r as usize * 19..][..19];
+            assert!(instructions(&file, t, r).is_ok(), "{name}");
+            assert!((0..row[8]).all(|i| handler(t, r, i).is_ok()), "{name}");
+            assert!((0..row[10]).all(|i| pool(&file, t, r, i).is_ok()), "{name}");
+            assert!((0..row[12]).all(|i| symbol(&file, t, r, i).is_ok()));
+            assert!((0..row[14]).all(|i| is_named(&file, t, r, i)), "{name}");
+            assert!((0..row[16]).all(|i| debug_file(&file, t, r, i).is_ok()));
+            assert_eq!(row[14], row[1] - 1, "{name}");
+            assert_eq!(name.ends_with("-g"), row[18] > 0, "{name}");
+            assert_eq!(line(t, r, 0).unwrap().is_some(), row[18] > 0, "{name}");
+        }
+    }
+}
+
+fn is_named(file: &[u8], tables: &Tables, record: u32, index: u32) -> bool {
+    model::name(file, tables, record, index).is_ok()
+}
+
+#[test]
+fn every_choice_keeps_the_frames_within_the_records() {
+    for (name, file) in corpus() {
+        let lent = exact(&file);
+        if examine(&file, &lent).refusal != 0 {
+            continue;
+        }
+        let records = load(&file, &lent).rows[0];
+        let mut seed = file.len() as u64;
+        for _ in 0..40 {
+            let mut choices = Vec::new();
+            for _ in 0..60 {
+                seed = seed.wrapping_mul(6_364_136_223_846_793_005) + 1;
+                match (seed >> 33) % 16 {
+                    0..=6 => choices.push(0),
+                    7..=9 => choices.push(1),
+                    10..=13 => choices.push(2),
+                    14 => choices.extend([3, 0, (seed >> 60) as u8 % 3]),
+                    _ => choices.push(4),
+                }
+            }
+            let followed = follow(&file, &lent, records as usize * 2, &choices);
+            assert_eq!(followed.loaded.refusal, 0, "{name}");
+            assert!(followed.frames <= records, "{name}");
+            assert_eq!(followed.finished, followed.frames == 0, "{name}");
+        }
+    }
+}

@@ -1,0 +1,697 @@
+//! Paper 01's samples, and the boundaries between its refusals.
+
+use model::*;
+
+/// Rows enough for every sample.
+fn enough() -> Sizes {
+    Sizes::of_rows([64; 9])
+}
+
+fn be2(n: usize) -> [u8; 2] {
+    (n as u16).to_be_bytes()
+}
+
+fn be4(n: usize) -> [u8; 4] {
+    (n as u32).to_be_bytes()
+}
+
+fn header(size: usize) -> Vec<u8> {
+    [&b"RITE0400"[..], &be4(size), &[0; 8]].concat()
+}
+
+/// A record with exact size: nlocals, nregs, rlen, code, handlers, pool, symbols.
+fn record(
+    locals: [usize; 3],
+    code: &[u8],
+    handlers: &[[usize; 4]],
+    pool: &[&[u8]],
+    symbols: &[&[u8]],
+) -> Vec<u8> {
+    let mut body = [be2(locals[0]), be2(locals[1]), be2(locals[2])].concat();
+    body.extend(be2(handlers.len()));
+    body.extend(be4(code.len()));
+    body.extend(code);
+    for [kind, begin, end, target] in handlers {
+        body.push(*kind as u8);
+        body.extend([be4(*begin), be4(*end), be4(*target)].concat());
+    }
+    body.extend(be2(pool.len()));
+    for entry in pool {
+        body.extend(*entry);
+    }
+    body.extend(be2(symbols.len()));
+    for symbol in symbols {
+        body.extend(be2(symbol.len()));
+        body.extend(*symbol);
+        body.push(0);
+    }
+    [&be4(body.len() + 4)[..], &body].concat()
+}
+
+fn section(mark: &[u8; 4], content: &[u8]) -> Vec<u8> {
+    [&mark[..], &be4(content.len() + 8), content].concat()
+}
+
+fn irep(records: &[Vec<u8>]) -> Vec<u8> {
+    section(b"IREP", &[vec![0; 4], records.concat()].concat())
+}
+
+fn file(sections: &[Vec<u8>]) -> Vec<u8> {
+    let content = sections.concat();
+    let end = section(b"END\0", &[]);
+    [header(20 + content.len() + end.len()), content, end].concat()
+}
+
+fn file_a() -> Vec<u8> {
+    file(&[irep(&[record([1, 2, 0], &[17, 1, 61, 1], &[], &[], &[])])])
+}
+
+fn refusal(file: &[u8]) -> Refusal {
+    load(file, &enough()).refusal
+}
+
+fn examined(file: &[u8]) -> Refusal {
+    examine(file, &enough()).refusal
+}
+
+/// A file with one record of this code, two registers, two constants, one symbol and no child.
+fn coded(code: &[u8]) -> Vec<u8> {
+    file(&[irep(&[record(
+        [1, 2, 0],
+        code,
+        &[],
+        &[&[1, 0, 0, 0, 1], &[1, 0, 0, 0, 2]],
+        &[b"s"],
+    )])])
+}
+
+#[test]
+fn file_a_is_the_papers() {
+    let a = file_a();
+    let mut said = b"RITE0400\0\0\0\x40\0\0\0\0\0\0\0\0".to_vec();
+    said.extend(b"IREP\0\0\0\x24\0\0\0\0");
+    said.extend([0, 0, 0, 24, 0, 1, 0, 2, 0, 0, 0, 0, 0, 0, 0, 4]);
+    said.extend([17, 1, 61, 1, 0, 0, 0, 0]);
+    said.extend(b"END\0\0\0\0\x08");
+    assert_eq!(a, said);
+    assert_eq!(a.len(), 64);
+}
+
+#[test]
+fn file_a_loads() {
+    let loaded = load(&file_a(), &enough());
+    assert_eq!(loaded.refusal, 0);
+    assert_eq!(loaded.rows, [1, 0, 0, 0, 0, 0, 0, 0, 0]);
+    let row = [24, 1, 2, 0, 0, 4, 48, 0, 0, 0, 0, 0, 0, 0, 0, 0, 0, 0, 0];
+    assert_eq!(loaded.tables[0][..19], row);
+    assert!(loaded.tables[0][19..].iter().all(|w| *w == 0));
+    assert!(loaded.tables[1..].iter().flatten().all(|w| *w == 0));
+    assert_eq!(examined(&file_a()), 0);
+}
+
+#[test]
+fn file_a_is_followed() {
+    let go = |n: usize| follow(&file_a(), &enough(), 2, &vec![0; n]);
+    let one = go(1);
+    assert_eq!(one.loaded.refusal, 0);
+    assert_eq!(
+        (one.finished, one.top, one.frames),
+        (false, Some((0, 2)), 1)
+    );
+    assert_eq!(one.frame_table, [0, 2]);
+    assert_eq!(one.line, None);
+    for n in 2..5 {
+        let more = go(n);
+        assert_eq!((more.finished, more.top, more.frames), (true, None, 0));
+        assert_eq!(more.frame_table, [0, 0]);
+    }
+}
+
+#[test]
+fn bytes_behind_the_sections() {
+    for extra in 0..4 {
+        assert_eq!(refusal(&[file_a(), vec![0; extra]].concat()), 0);
+    }
+    assert_eq!(refusal(&[file_a(), vec![0; 4]].concat()), 5);
+}
+
+#[test]
+fn no_record() {
+    let mut short = file_a()[..20].to_vec();
+    short.extend(b"END\0\0\0\0\x0c\0\0\0\0");
+    assert_eq!(short.len(), 32);
+    assert_eq!(refusal(&short), 0);
+    assert_eq!(load(&short, &enough()).rows, [0; 9]);
+    assert_eq!(examined(&short), 15);
+    assert_eq!(follow(&short, &enough(), 0, &[]).loaded.refusal, 15);
+    assert_eq!(refusal(&short[..31]), 4);
+    short[27] = 0;
+    assert_eq!(refusal(&short), 8);
+}
+
+#[test]
+fn packed_numbers() {
+    let value = |bytes: &[u8]| packed(bytes).map(|p| (p.value, p.bytes));
+    assert_eq!(value(&[129, 1]), Ok((129, 2)));
+    assert_eq!(value(&[255, 255, 255, 255, 15]), Ok((u32::MAX, 5)));
+    assert_eq!(value(&[255, 255, 255, 255, 127]), Ok((u32::MAX, 5)));
+    assert_eq!(value(&[255, 255, 255, 255, 143]), Err(12));
+    assert_eq!(value(&[255, 255, 255, 255]), Err(7));
+    assert_eq!(value(&[128, 0, 9]), Ok((0, 2)));
+    assert_eq!(value(&[]), Err(7));
+}
+
+fn map(pairs: &[(u32, u32)]) -> Vec<Entry> {
+    pairs
+        .iter()
+        .map(|(position, line)| Entry {
+            position: *position,
+            line: *line,
+        })
+        .collect()
+}
+
+#[test]
+fn lines_of_positions() {
+    let rising = map(&[(0, 10), (4, 12), (9, 11)]);
+    assert_eq!(line_at(&rising, 3), Some(10));
+    assert_eq!(line_at(&rising, 4), Some(12));
+    assert_eq!(line_at(&rising, u32::MAX), Some(11));
+    assert_eq!(line_at(&map(&[(0, 1), (0, 2)]), 0), Some(2));
+    assert_eq!(line_at(&map(&[(4, 12)]), 3), None);
+    assert_eq!(line_at(&[], 0), None);
+}
+
+#[test]
+fn fetched() {
+    assert_eq!(fetch(&[57, 1, 2, 3]), Ok(Fetched::W(66051)));
+    assert_eq!(fetch(&[]), Err(24));
+    assert_eq!(fetch(&[119]), Err(23));
+    assert_eq!(fetch(&[57, 1, 2]), Err(24));
+    assert_eq!(fetch(&[115]), Ok(Fetched::Z));
+    assert_eq!(
+        fetch(&[15, 1, 2, 3, 4, 5, 6]),
+        Ok(Fetched::BSS(1, 515, 1029))
+    );
+}
+
+#[test]
+fn jumps() {
+    assert_eq!(examined(&coded(&[38, 255, 253])), 0);
+    assert_eq!(examined(&coded(&[38, 255, 252])), 18);
+    assert_eq!(examined(&coded(&[38, 0, 0])), 18);
+    assert_eq!(examined(&coded(&[38, 0, 0, 118])), 0);
+    assert_eq!(examined(&coded(&[39, 0, 0, 0])), 18);
+    assert_eq!(examined(&coded(&[39, 0, 0, 1, 1, 0, 1, 118])), 18);
+    assert_eq!(examined(&coded(&[39, 0, 0, 3, 1, 0, 1, 118])), 0);
+    assert_eq!(examined(&coded(&[42, 255, 253])), 0);
+}
+
+#[test]
+fn instructions_that_do_not_pass() {
+    for (code, number) in [
+        (&[][..], 16),
+        (&[119], 16),
+        (&[115, 118], 16),
+        (&[117], 16),
+        (&[1, 0], 16),
+        (&[118, 1, 0], 16),
+        (&[1, 0, 2, 118], 17),
+        (&[1, 2, 0, 118], 17),
+        (&[1, 1, 1, 118], 0),
+        (&[2, 0, 2, 118], 17),
+        (&[2, 0, 1, 118], 0),
+        (&[16, 0, 1, 118], 17),
+        (&[16, 0, 0, 118], 0),
+        (&[97, 0, 0, 118], 17),
+        (&[0], 18),
+        (&[114, 1], 0),
+        (&[114, 2], 17),
+        (&[110, 0, 118], 0),
+        (&[110, 1, 118], 17),
+        (&[109, 0, 0, 118], 0),
+        (&[109, 1, 0, 118], 17),
+        (&[113, 9, 9, 9, 118], 0),
+        (&[38, 0, 9, 1, 9, 9], 18),
+        (&[1, 9, 9, 38, 0, 9], 17),
+        (&[118, 1, 9, 9], 17),
+        (&[3, 0, 255, 118], 0),
+    ] {
+        assert_eq!(examined(&coded(code)), number, "{code:?}");
+    }
+}
+
+#[test]
+fn whole_trees() {
+    assert!(is_whole(&[2, 0, 0]));
+    assert!(!is_whole(&[0, 1]));
+    assert!(is_whole(&[0]));
+    assert!(!is_whole(&[]));
+    assert!(!is_whole(&[1]));
+    assert!(is_whole(&[2, 1, 0, 0]));
+    assert_eq!(child(&[2, 1, 0, 0], 0, 0), 1);
+    assert_eq!(child(&[2, 1, 0, 0], 0, 1), 3);
+}
+
+#[test]
+fn handlers_and_maps_that_do_not_pass() {
+    let caught = |target: usize| {
+        let code = [1, 0, 0, 118];
+        file(&[irep(&[record(
+            [1, 1, 0],
+            &code,
+            &[[0, 9, 9, target]],
+            &[],
+            &[],
+        )])])
+    };
+    for (target, number) in [(0, 0), (3, 0), (1, 19), (4, 19), (1 << 31, 19)] {
+        assert_eq!(examined(&caught(target)), number, "{target}");
+    }
+    let mapped = |pairs: [[usize; 2]; 2]| {
+        let mut debug = vec![0, 1, 0, 1, b'f', 0, 0, 0, 29, 0, 1];
+        debug.extend([0, 0, 0, 0, 0, 0, 0, 0, 0, 2, 1]);
+        for [position, line] in pairs {
+            debug.extend(be4(position));
+            debug.extend(be2(line));
+        }
+        let code = record([1, 0, 0], &[118], &[], &[], &[]);
+        file(&[irep(&[code]), section(b"DBG\0", &debug)])
+    };
+    assert_eq!(examined(&mapped([[3, 1], [3, 2]])), 0);
+    assert_eq!(examined(&mapped([[3, 1], [2, 2]])), 20);
+    assert_eq!(examined(&mapped([[3, 1], [2, 1]])), 0);
+}
+
+#[test]
+fn order_of_the_first_refusals() {
+    assert_eq!(refusal(&[]), 2);
+    assert_eq!(refusal(&vec![0; 65_537]), 1);
+    assert_eq!(refusal(&[0; 19]), 2);
+    assert_eq!(refusal(&[0; 20]), 3);
+    assert_eq!(refusal(&header(0)), 4);
+    assert_eq!(refusal(&[header(0), vec![1; 11]].concat()), 4);
+    assert_eq!(refusal(&[header(0), vec![1; 12]].concat()), 5);
+    let mut other = header(0);
+    other[5] = b'3';
+    assert_eq!(refusal(&other), 3);
+}
+
+#[test]
+fn marks_and_sizes() {
+    let start = header(0);
+    let with = |sections: &[&[u8]]| refusal(&[&start[..], &sections.concat()].concat());
+    let bare = b"IREP\0\0\0\x0c\0\0\0\0";
+    assert_eq!(with(&[bare]), 0);
+    assert_eq!(with(&[bare, bare]), 6);
+    assert_eq!(with(&[bare, b"IREP"]), 6);
+    assert_eq!(with(&[bare, b"LVAR"]), 7);
+    assert_eq!(with(&[bare, b"DBG\0\0\0\0"]), 7);
+    assert_eq!(with(&[bare, b"END\0"]), 7);
+    assert_eq!(with(&[bare, b"END\x01"]), 5);
+    assert_eq!(with(&[bare, b"END"]), 0);
+    assert_eq!(with(&[b"LVAR\0\0\0\x0c\0\0\0\0"]), 6);
+    assert_eq!(with(&[b"DBG\0\0\0\0\x0a\0\0", bare]), 6);
+    assert_eq!(with(&[b"END\0\0\0\0\x08", bare]), 0);
+    assert_eq!(with(&[bare, b"DBG\0\0\0\0\x09\0\0"]), 7);
+    assert_eq!(with(&[bare, b"DBG\0\0\0\0\0\0\0"]), 7);
+    assert_eq!(with(&[bare, b"DBG\0\0\0\0\x0a\0\0"]), 0);
+    assert_eq!(with(&[bare, b"DBG\0\0\0\0\x0b\0\0"]), 7);
+    assert_eq!(with(&[bare, b"LVAR\0\0\0\0\0\0\0\0"]), 8);
+    assert_eq!(with(&[bare, b"LVAR\0\0\0\x0d\0\0\0\0"]), 7);
+    assert_eq!(with(&[bare, b"LVAR\0\0\0\x0a\0\0\0\0"]), 0);
+    assert_eq!(with(&[b"IREP\0\0\0\0\0\0\0\0"]), 8);
+    assert_eq!(with(&[b"IREP\0\0\0\x08END\0\0\0\0\x08"]), 0);
+    assert_eq!(with(&[bare, b"END\0\0\0\0\x05"]), 0);
+    assert_eq!(with(&[bare, b"END\0\0\0\0\x04"]), 5);
+}
+
+/// A record with a part of each kind, LVAR and DBG behind it.
+fn full() -> Vec<u8> {
+    let first = record(
+        [3, 4, 1],
+        &[118],
+        &[[1, 2, 3, 0], [4, 5, 6, 0]],
+        &[
+            &[0, 0, 2, b'a', b'b', 0],
+            &[1, 255, 255, 255, 254],
+            &[2, 0, 0, 0],
+            &[3, 1, 0, 0, 0, 0, 0, 0, 0],
+            &[5, 0, 0, 0, 0, 0, 0, 240, 63],
+            &[7, 2, 10, b'1', b'2'],
+        ],
+        &[b"sym", b""],
+    );
+    let second = record([2, 1, 0], &[17, 0, 118], &[], &[], &[b"x"]);
+    let mut names = be4(2).to_vec();
+    names.extend(b"\0\x01p\0\x01q");
+    names.extend([0, 1, 255, 255, 0, 0]);
+    let mut debug = b"\0\x02\0\x01f\0\x01g".to_vec();
+    debug.extend([0, 0, 0, 42, 0, 2]);
+    debug.extend([0, 0, 0, 7, 0, 1, 0, 0, 0, 3, 0, 0, 5, 0, 5, 0, 6]);
+    debug.extend([0, 0, 0, 9, 0, 0, 0, 0, 0, 7, 2]);
+    debug.extend([1, 6, 2, 255, 255, 255, 255, 15]);
+    debug.extend([0, 0, 0, 29, 0, 1]);
+    debug.extend([0, 0, 0, 0, 0, 0, 0, 0, 0, 2, 1]);
+    debug.extend([0, 0, 0, 8, 0, 3, 0, 0, 0, 4, 0, 2]);
+    file(&[
+        irep(&[first, second]),
+        section(b"LVAR", &names),
+        section(b"DBG\0", &debug),
+    ])
+}
+
+#[test]
+fn every_table() {
+    let file = full();
+    let loaded = load(&file, &enough());
+    assert_eq!(loaded.refusal, 0);
+    assert_eq!(loaded.rows, [2, 2, 6, 3, 2, 3, 2, 3, 6]);
+    let t = &loaded.tables;
+    assert_eq!(t[0][1..6], [3, 4, 1, 2, 1]);
+    assert_eq!(t[0][6], 48);
+    assert_eq!(t[0][7..19], [0, 2, 0, 6, 0, 2, 0, 2, 0, 2, 0, 4]);
+    assert_eq!(t[0][19 + 7..38], [0, 0, 0, 0, 2, 1, 2, 1, 2, 1, 4, 2]);
+    assert_eq!(t[1][..8], [1, 2, 3, 0, 4, 5, 6, 0]);
+    let kinds: Vec<u32> = t[2][..18].chunks(3).map(|row| row[0]).collect();
+    assert_eq!(kinds, [0, 1, 2, 3, 5, 7]);
+    let lengths: Vec<u32> = t[2][..18].chunks(3).map(|row| row[2]).collect();
+    assert_eq!(lengths, [2, 4, 0, 8, 8, 3]);
+    assert_eq!(t[5][..3], [1, 65_535, 0]);
+    assert_eq!(t[7][..12], [7, 1, 0, 2, 9, 0, 2, 2, 0, 0, 4, 2]);
+    assert_eq!(t[8][..12], [7, 5, 9, 6, 1, 6, 3, 5, 8, 3, 4, 2]);
+}
+
+#[test]
+fn lookups() {
+    let file = full();
+    let t = load(&file, &enough()).tables;
+    let text = |found: FoundText| found.of(&file).to_vec();
+    assert_eq!(text(instructions(&file, &t, 1).unwrap()), [17, 0, 118]);
+    assert_eq!(instructions(&file, &t, 2), Err(22));
+    assert_eq!(handler(&t, 0, 1).unwrap().end, 6);
+    assert_eq!(handler(&t, 0, 2), Err(22));
+    assert_eq!(handler(&t, 1, 0), Err(22));
+    let Ok(Constant::Text(ab)) = pool(&file, &t, 0, 0) else {
+        panic!("no text");
+    };
+    assert_eq!(text(ab), b"ab");
+    assert_eq!(pool(&file, &t, 0, 1), Ok(Constant::Int(-2)));
+    assert_eq!(pool(&file, &t, 0, 3), Ok(Constant::Int(1)));
+    assert_eq!(pool(&file, &t, 0, 4), Ok(Constant::Float(1.0)));
+    let Ok(Constant::Big(big)) = pool(&file, &t, 0, 5) else {
+        panic!("no big integer");
+    };
+    assert_eq!(text(big), [10, b'1', b'2']);
+    assert_eq!(pool(&file, &t, 0, 6), Err(22));
+    assert_eq!(text(symbol(&file, &t, 0, 0).unwrap()), b"sym");
+    assert_eq!(text(symbol(&file, &t, 0, 1).unwrap()), b"");
+    assert_eq!(text(symbol(&file, &t, 1, 0).unwrap()), b"x");
+    assert_eq!(text(name(&file, &t, 0, 0).unwrap().unwrap()), b"q");
+    assert_eq!(name(&file, &t, 0, 1), Ok(None));
+    assert_eq!(text(name(&file, &t, 1, 0).unwrap().unwrap()), b"p");
+    assert_eq!(name(&file, &t, 1, 1), Err(22));
+    let found = debug_file(&file, &t, 0, 1).unwrap();
+    assert_eq!((found.start, found.first, found.number), (9, 2, 2));
+    assert_eq!(text(found.name), b"f");
+    assert_eq!(line(&t, 0, 6), Ok(Some(5)));
+    assert_eq!(line(&t, 1, 3), Ok(None));
+    assert_eq!(line(&t, 1, 8), Ok(Some(2)));
+    assert_eq!(line(&t, 2, 0), Err(22));
+}
+
+#[test]
+fn lookups_over_hostile_tables() {
+    let file = full();
+    let good = load(&file, &enough()).tables;
+    let with = |table: usize, word: usize, value: u32| {
+        let mut t = good.clone();
+        t[table][word] = value;
+        t
+    };
+    assert_eq!(instructions(&file, &with(0, 0, 0), 0), Err(22));
+    assert_eq!(instructions(&file, &with(0, 6, u32::MAX), 0), Err(22));
+    assert_eq!(instructions(&file, &with(0, 5, u32::MAX), 0), Err(22));
+    let left = file.len() as u32 - 48;
+    assert!(instructions(&file, &with(0, 5, left), 0).is_ok());
+    assert_eq!(instructions(&file, &with(0, 5, left + 1), 0), Err(22));
+    assert!(handler(&with(0, 7, 62), 0, 1).is_ok());
+    assert_eq!(handler(&with(0, 7, 63), 0, 1), Err(22));
+    assert_eq!(handler(&with(0, 7, u32::MAX), 0, 1), Err(22));
+    assert_eq!(pool(&file, &with(2, 0, 4), 0, 0), Err(22));
+    assert_eq!(pool(&file, &with(2, 0, 1), 0, 0), Err(22));
+    assert_eq!(pool(&file, &with(2, 5, 8), 0, 1), Err(22));
+    assert_eq!(name(&file, &with(5, 0, 64), 0, 0), Err(22));
+    assert_eq!(name(&file, &with(5, 0, 65_536), 0, 0), Err(22));
+    let unused = Ok(Some(FoundText {
+        place: 0,
+        length: 0,
+    }));
+    assert_eq!(name(&file, &with(5, 0, 63), 0, 0), unused);
+    assert_eq!(debug_file(&file, &with(7, 1, 65_535), 0, 0), Err(22));
+    assert_eq!(debug_file(&file, &with(7, 3, 65), 0, 0), Err(22));
+    assert_eq!(line(&with(0, 17, 60), 0, 0).unwrap(), Some(0));
+    assert_eq!(line(&with(0, 17, 61), 0, 0), Err(22));
+    let mut nowhere = with(0, 17, u32::MAX);
+    nowhere[0][18] = 0;
+    assert_eq!(line(&nowhere, 0, 0), Ok(None));
+}
+
+#[test]
+fn lent_tables() {
+    let file = full();
+    let used = load(&file, &enough()).rows.map(|rows| rows as usize);
+    let exact = Sizes::of_rows(used);
+    assert_eq!(load(&file, &exact).refusal, 0);
+    for t in 0..9 {
+        let mut short = exact;
+        short.0[t] -= 1;
+        let refused = load(&file, &short);
+        assert_eq!(refused, Loaded::refused(14, &short), "{}", NAMES[t]);
+        let mut long = exact;
+        long.0[t] += ROW_WORDS[t] - 1;
+        let loaded = load(&file, &long);
+        assert_eq!(loaded.refusal, 0);
+        assert!(loaded.tables[t][exact.0[t]..].iter().all(|w| *w == 0));
+    }
+    assert_eq!(load(&file, &Sizes::default()).refusal, 14);
+}
+
+#[test]
+fn cuts_are_refused() {
+    let file = full();
+    for length in 0..file.len() - 8 {
+        let number = refusal(&file[..length]);
+        let expected = match length {
+            0..20 => 2,
+            20..32 => 4,
+            _ => 7,
+        };
+        // A cut up to three bytes behind a section loads.
+        assert!(number == expected || number == 0, "{length}: {number}");
+    }
+}
+
+#[test]
+fn frames_of_children() {
+    let outer = record(
+        [1, 2, 2],
+        &[98, 0, 1, 39, 0, 255, 249, 118],
+        &[[0, 0, 0, 7]],
+        &[],
+        &[],
+    );
+    let middle = record([1, 2, 1], &[99, 0, 0, 118], &[], &[], &[]);
+    let inner = record([1, 2, 0], &[118], &[], &[], &[]);
+    let last = record([1, 2, 0], &[0, 118], &[[0, 0, 0, 1]], &[], &[]);
+    let file = file(&[irep(&[outer, middle, inner, last])]);
+    let frames = |choices: &[u8]| {
+        let followed = follow(&file, &enough(), 10, choices);
+        assert_eq!(followed.loaded.refusal, 0);
+        let mut table = followed.frame_table;
+        assert!(
+            table[followed.frames as usize * 2..]
+                .iter()
+                .all(|w| *w == 0)
+        );
+        table.truncate(followed.frames as usize * 2);
+        table
+    };
+    assert_eq!(frames(&[]), [0, 0]);
+    assert_eq!(frames(&[2]), [0, 3, 3, 0]);
+    assert_eq!(frames(&[2, 0]), [0, 3, 3, 1]);
+    assert_eq!(frames(&[2, 0, 0]), [0, 3]);
+    assert_eq!(frames(&[2, 4]), [0, 3]);
+    assert_eq!(frames(&[2, 4, 1]), [0, 0]);
+    assert_eq!(frames(&[2, 3, 0, 0]), [0, 3, 3, 1]);
+    assert_eq!(frames(&[2, 3, 0, 1]), [0, 3, 3, 1]);
+    assert_eq!(frames(&[3, 0, 0]), [0, 7]);
+    assert_eq!(frames(&[3, 0, 0, 2]), []);
+    assert_eq!(frames(&[3, 0, 1]), [0, 3]);
+    assert_eq!(frames(&[1]), [0, 3]);
+    assert_eq!(frames(&[4, 2, 0]), []);
+    assert_eq!(frames(&[2, 2, 2, 1, 2]), [0, 3, 3, 0]);
+    let refused = |words: usize, choices: &[u8]| {
+        let followed = follow(&file, &enough(), words, choices);
+        assert!(followed.frame_table.iter().all(|w| *w == 0));
+        followed.loaded.refusal
+    };
+    assert_eq!(refused(8, &[4, 5]), 21);
+    assert_eq!(refused(8, &[4, 3, 0]), 21);
+    assert_eq!(refused(7, &[5]), 14);
+}
+
+/// The refusal of a file over enough rows, but for one table without any.
+fn without(table: usize, file: &[u8]) -> Refusal {
+    let mut rows = [64; 9];
+    rows[table] = 0;
+    let lent = Sizes::of_rows(rows);
+    let loaded = load(file, &lent);
+    assert!(loaded.refusal == 0 || loaded.tables == lent.zeros());
+    loaded.refusal
+}
+
+/// A header, an IREP section of this content with any size that fits, and what follows.
+fn with_records(content: &[u8], rest: &[u8]) -> Vec<u8> {
+    [header(0), irep(&[content.to_vec()]), rest.to_vec()].concat()
+}
+
+#[test]
+fn a_records_row_is_needed_once_its_16_bytes_are_read() {
+    let short = with_records(&[0, 0, 0, 20, 0, 1, 0, 0, 0, 0, 0, 0, 0, 0, 0], &[]);
+    assert_eq!(without(0, &short), 7);
+    let head = [0, 0, 0, 20, 0, 1, 0, 0, 0, 0, 0, 0, 0, 0, 0, 9];
+    assert_eq!(refusal(&with_records(&head, &[])), 7);
+    assert_eq!(without(0, &with_records(&head, &[])), 14);
+    let zero = [&[0; 16][..], &[0; 4]].concat();
+    assert_eq!(refusal(&with_records(&zero, &[])), 8);
+    assert_eq!(without(0, &with_records(&zero, &[])), 14);
+}
+
+#[test]
+fn other_rows_of_a_record_are_needed_once_their_bytes_are_good() {
+    let head = |clen: u8| vec![0, 0, 0, 99, 0, 1, 0, 0, 0, 0, 0, clen, 0, 0, 0, 0];
+    let with = |clen: u8, rest: &[u8]| with_records(&[head(clen), rest.to_vec()].concat(), &[]);
+    assert_eq!(without(1, &with(1, &[0; 12])), 7);
+    assert_eq!(without(1, &with(1, &[0; 13])), 14);
+    assert_eq!(refusal(&with(1, &[0; 13])), 7);
+    for (entry, number, missing) in [
+        (&[0, 1, 0, 0][..], 7, 7),
+        (&[0, 1, 4], 10, 10),
+        (&[0, 1, 0, 0, 1, b'a', b'b'], 9, 9),
+        (&[0, 1, 0, 0, 1, 0, 0], 9, 9),
+        (&[0, 1, 0, 0, 1, 0], 7, 7),
+        (&[0, 1, 1, 0, 0, 0], 7, 7),
+        (&[0, 1, 1, 0, 0, 0, 0], 7, 14),
+        (&[0, 1, 7, 1, 0], 7, 7),
+        (&[0, 1, 7, 1, 0, 0], 7, 14),
+    ] {
+        assert_eq!(refusal(&with(0, entry)), number, "{entry:?}");
+        assert_eq!(without(2, &with(0, entry)), missing, "{entry:?}");
+    }
+    for (symbol, number, missing) in [
+        (&[0, 0, 0, 1, 0][..], 7, 7),
+        (&[0, 0, 0, 1, 0, 1, 0, 0], 9, 9),
+        (&[0, 0, 0, 1, 0, 1, b'a', 0], 0, 14),
+        (&[0, 0, 0, 2, 0, 1, b'a', 0], 7, 14),
+    ] {
+        assert_eq!(refusal(&with(0, symbol)), number, "{symbol:?}");
+        assert_eq!(without(3, &with(0, symbol)), missing, "{symbol:?}");
+    }
+}
+
+#[test]
+fn rows_of_names_are_needed_once_their_bytes_are_good() {
+    let code = record([3, 0, 0], &[], &[], &[], &[]);
+    let with = |content: &[u8]| with_records(&code, &[b"LVAR\0\0\0\x0c", content].concat());
+    for (content, number, table, missing) in [
+        (&[0, 0, 0, 1, 0, 1][..], 7, 4, 7),
+        (&[0, 0, 0, 1, 0, 1, 0], 9, 4, 9),
+        (&[0, 0, 0, 1, 0, 1, b'a'], 7, 4, 14),
+        (&[0, 0, 0, 1, 0, 1, b'a', 0], 7, 5, 7),
+        (&[0, 0, 0, 1, 0, 1, b'a', 0, 1], 11, 5, 11),
+        (&[0, 0, 0, 1, 0, 1, b'a', 0, 0], 7, 5, 14),
+        (&[0, 0, 0, 0, 255, 255], 7, 5, 14),
+    ] {
+        assert_eq!(refusal(&with(content)), number, "{content:?}");
+        assert_eq!(without(table, &with(content)), missing, "{content:?}");
+    }
+}
+
+#[test]
+fn rows_of_debug_files_are_needed_once_their_kind_is_accepted() {
+    let code = record([0, 0, 0], &[], &[], &[], &[]);
+    let with = |content: &[u8]| {
+        let section = section(b"DBG\0", &[b"\0\x01\0\x01f", content].concat());
+        with_records(&code, &section)
+    };
+    let bare = with_records(&code, &section(b"DBG\0", &[0, 1, 0, 1, 0]));
+    assert_eq!(without(6, &bare), 9);
+    assert_eq!(without(6, &with(&[])), 14);
+    assert_eq!(refusal(&with(&[])), 0);
+    let file = |start: [u8; 4], name: u8, count: u8, kind: u8, lines: &[u8]| {
+        let mut content = start.to_vec();
+        content.extend([0, name, 0, 0, 0, count, kind]);
+        content.extend(lines);
+        content
+    };
+    let debug = |count: u8, files: &[Vec<u8>]| {
+        let files = files.concat();
+        [&be4(files.len() + 6)[..], &[0, count], &files].concat()
+    };
+    let zero = [0; 4];
+    let last = [255; 4];
+    for (content, number, table, missing) in [
+        (debug(1, &[vec![0, 0, 0]]), 7, 7, 7),
+        (debug(1, &[vec![0, 0, 0, 0, 0, 1]]), 12, 7, 12),
+        (debug(1, &[vec![0, 0, 0, 0, 0, 0, 0]]), 7, 7, 7),
+        (debug(1, &[file(zero, 0, 0, 3, &[])]), 12, 7, 12),
+        (debug(1, &[file(zero, 0, 1, 0, &[])]), 7, 7, 14),
+        (debug(1, &[file(zero, 0, 1, 0, &[0])]), 7, 8, 7),
+        (debug(1, &[file(zero, 0, 1, 0, &[0, 1])]), 0, 8, 14),
+        (debug(1, &[file(zero, 0, 0, 0, &[])]), 0, 8, 0),
+        (debug(1, &[file(last, 0, 2, 0, &[0, 1, 0])]), 7, 8, 14),
+        (debug(1, &[file(last, 0, 2, 0, &[0, 1, 0, 1])]), 13, 8, 14),
+        (debug(1, &[file(zero, 0, 1, 1, &[0; 5])]), 7, 8, 7),
+        (debug(1, &[file(zero, 0, 1, 1, &[0; 6])]), 0, 8, 14),
+        (debug(1, &[file(zero, 0, 1, 2, &[0])]), 7, 8, 7),
+        (
+            debug(1, &[file(zero, 0, 1, 2, &[0, 255, 255, 255, 255, 255])]),
+            12,
+            8,
+            12,
+        ),
+        (debug(1, &[file(zero, 0, 1, 2, &[0, 0])]), 0, 8, 14),
+        (
+            debug(2, &[file(zero, 0, 0, 0, &[]), zero.to_vec()]),
+            12,
+            7,
+            14,
+        ),
+    ] {
+        assert_eq!(refusal(&with(&content)), number, "{content:?}");
+        assert_eq!(without(table, &with(&content)), missing, "{content:?}");
+    }
+    // One row of lines holds two entries of one line.
+    let same = with(&debug(1, &[file(zero, 0, 2, 0, &[0, 1, 0, 1])]));
+    let mut rows = [64; 9];
+    rows[8] = 1;
+    assert_eq!(load(&same, &Sizes::of_rows(rows)).refusal, 0);
+    let other = with(&debug(1, &[file(zero, 0, 2, 0, &[0, 1, 0, 2])]));
+    assert_eq!(load(&other, &Sizes::of_rows(rows)).refusal, 14);
+    let wrong = with(&[0, 0, 0, 7, 0, 0]);
+    assert_eq!(refusal(&wrong), 12);
+}
+
+#[test]
+fn the_1025th_record_has_no_row() {
+    let record = record([1, 0, 0], &[], &[], &[], &[]);
+    let lent = Sizes::of_rows([2000; 9]);
+    let with = |count: usize| file(&[irep(&vec![record.clone(); count])]);
+    assert_eq!(load(&with(1024), &lent).refusal, 0);
+    assert_eq!(load(&with(1025), &lent).refusal, 14);
+    let cut = &with(1025)[..20 + 12 + 1024 * 20 + 15];
+    let mut cut = cut.to_vec();
+    cut[24..28].copy_from_slice(&be4(12 + 1024 * 20 + 15));
+    assert_eq!(load(&cut, &lent).refusal, 7);
+}
