@@ -1,16 +1,37 @@
--- Paper 01's starred samples of packed numbers, maps and instructions, as one table of the definitions.
+-- Paper 01's starred samples of loading, packed numbers, maps and instructions, as one table of the definitions.
 -- Assumes nothing.
 use Prim.Native.Nat.{ℕ}
 use mathlib.Core.Path.{_≡_, refl}
 use mathlib.Core.List.{List, [], _∷_}
 use mathlib.Core.Option.{none, some}
+use lib.ListN.{replicate}
 use Rattle.format.specs.Bytes.{ok, refused, step}
 use Rattle.format.specs.Rows.{lineRow}
 use Rattle.format.specs.Insn.{W, S, table, row, operands, opcode, rest, lastOf, jump, target, insn, fetchAs, fetch}
-use Rattle.format.specs.Packed.{packedFrom, packed}
+use Rattle.format.specs.Irep.{handler, zeroLast, text, bigInteger, poolValue, poolEntry, counted, headAt, bodyAt, recordAt, recordsFrom, irepSection}
+use Rattle.format.specs.Walk.{walk}
+use Rattle.format.specs.Lvar.{noZero, plainText, nameEntry, recordNames, lvarSection}
+use Rattle.format.specs.Packed.{packedFrom, packed, packedEntry}
+use Rattle.format.specs.Debug.{fileHead, mapEntry, mapLines, filesFrom, debugRecord, debugContent, debugSection}
+use Rattle.format.specs.File.{endSection, sectionAt, sections, fileReading}
+use Rattle.format.specs.Load.{Nine, fits, ending, loading, load}
 use Rattle.format.specs.Line.{halve, lineAt}
 
+-- File A: header, an IREP section with one record, END
+abbrev fileA : List ℕ
+fileA =
+    82 ∷ 73 ∷ 84 ∷ 69 ∷ 48 ∷ 52 ∷ 48 ∷ 48 ∷ 0 ∷ 0 ∷ 0 ∷ 64 ∷ 0 ∷ 0 ∷ 0 ∷ 0 ∷ 0 ∷ 0 ∷ 0 ∷ 0
+    ∷ 73 ∷ 82 ∷ 69 ∷ 80 ∷ 0 ∷ 0 ∷ 0 ∷ 36 ∷ 0 ∷ 0 ∷ 0 ∷ 0
+    ∷ 0 ∷ 0 ∷ 0 ∷ 24 ∷ 0 ∷ 1 ∷ 0 ∷ 2 ∷ 0 ∷ 0 ∷ 0 ∷ 0 ∷ 0 ∷ 0 ∷ 0 ∷ 4 ∷ 17 ∷ 1 ∷ 61 ∷ 1 ∷ 0 ∷ 0 ∷ 0 ∷ 0
+    ∷ 69 ∷ 78 ∷ 68 ∷ 0 ∷ 0 ∷ 0 ∷ 0 ∷ 8 ∷ []
+
+-- tables with so many words for records, and none for the rest
+lent : ℕ → Nine
+lent n = record { records = n; handlers = 0; pool = 0; symbols = 0; strings = 0; names = 0; fileNames = 0; files = 0; lines = 0 }
+
 record Table : Type 0 where
+  a-loads : load fileA (lent 38) .answer ≡ ok (lent 1)
+  a-row : load fileA (lent 38) .tables .records ≡ 24 ∷ 1 ∷ 2 ∷ 0 ∷ 0 ∷ 4 ∷ 48 ∷ replicate 31 0
   packed-two : packed (129 ∷ 1 ∷ []) 0 ≡ ok (step 129 2)
   packed-most : packed (255 ∷ 255 ∷ 255 ∷ 255 ∷ 15 ∷ []) 0 ≡ ok (step 4294967295 5)
   packed-dropped : packed (255 ∷ 255 ∷ 255 ∷ 255 ∷ 127 ∷ []) 0 ≡ ok (step 4294967295 5)
@@ -24,8 +45,10 @@ record Table : Type 0 where
   jumps-to-itself : target (38 ∷ 255 ∷ 253 ∷ []) 0 ≡ 0
 
 samples : Table
-unfolding table row operands opcode rest lastOf jump target fetchAs fetch packedFrom packed halve lineAt
+unfolding table row operands opcode rest lastOf jump target fetchAs fetch packedFrom packed halve lineAt handler zeroLast text bigInteger poolValue poolEntry counted headAt bodyAt recordAt recordsFrom irepSection walk noZero plainText nameEntry recordNames lvarSection fileHead mapEntry mapLines filesFrom debugRecord debugContent debugSection packedEntry endSection sectionAt sections fileReading fits ending loading load lent
 samples = record {
+  a-loads = refl;
+  a-row = refl;
   packed-two = refl;
   packed-most = refl;
   packed-dropped = refl;

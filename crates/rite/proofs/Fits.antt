@@ -4,8 +4,8 @@ use Prim.Native.Nat.{ℕ, _/_, _≤_}
 use native.Mathlib.Nat.{le-trans}
 use native.Mathlib.Omega.{arith}
 use mathlib.Core.Path.{_≡_, refl, sym, subst}
-use mathlib.Core.Bool.{Bool, true, false, _&&_}
-use lib.Dec.{T, leb, leb→le}
+use mathlib.Core.Bool.{Bool, true, false}
+use lib.Dec.{T, leb→le}
 use lib.ListN.{length}
 use borrow.Author.Tests.{le-leb}
 use Rattle.format.specs.File.{Content}

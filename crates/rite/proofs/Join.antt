@@ -1,21 +1,23 @@
--- The IREP and LVAR sections over nine tables agree with the reading that knows no table.
+-- The sections over nine tables agree with the reading that knows no table, and so does the load.
 -- Assumes nothing.
-use Prim.Native.Nat.{ℕ}
+use Prim.Native.Nat.{ℕ, zero, suc, _+_, _<_}
 use native.Mathlib.Omega.{arith}
-use mathlib.Core.Path.{_≡_, refl}
-use mathlib.Core.Bool.{Bool, true, false}
-use mathlib.Core.List.{List, []}
+use mathlib.Core.Path.{_≡_, refl, ap, _∙_}
+use mathlib.Core.Bool.{Bool, true, false, cond}
+use mathlib.Core.List.{List, [], _∷_}
 use mathlib.Core.Option.{Option, none, some}
 use lib.Dec.{ltb}
-use lib.ListN.{length, drop}
+use lib.ListN.{length, getD, drop}
 use borrow.Author.Tests.{le-ltb}
+use Rattle.format.specs.Bytes.{Answer, ok, refused, onAnswer, has}
+use Rattle.format.specs.Headers as mark
 use Rattle.format.specs.Reading.{Part, part}
-use Rattle.format.specs.Rows.{recordWords}
+use Rattle.format.specs.Rows.{NameRow, recordWords}
 use Rattle.format.specs.Irep.{Rec, irepSection}
 use Rattle.format.specs.Lvar.{Lvar, lvarSection}
-use Rattle.format.specs.Debug.{File, Debug}
-use Rattle.format.specs.File.{Content, content, nothing, once, afterIrep}
-use Rattle.format.specs.Load.{Nine, Words, tablesOf, wordsOf, recordsOf, namesOf, filesOf, start, used}
+use Rattle.format.specs.Debug.{File, Debug, debugSection}
+use Rattle.format.specs.File.{Content, content, nothing, isMark, majorIs04, once, afterIrep, endSection, sectionAt, sections, fileReading}
+use Rattle.format.specs.Load.{Nine, Words, tablesOf, wordsOf, recordsOf, namesOf, filesOf, joined, fileRows, start, used, fits, ending, loading, load}
 use Rattle.rows.specs.Table.{rowCount}
 use Rattle.rows.proofs.Join.{Ran, length-table}
 use Rattle.irep.specs.Record.{irepOf}
@@ -23,13 +25,20 @@ use Rattle.irep.proofs.Join as irep
 use Rattle.irep.proofs.Join.{held, lentOf, IrepRan, irep-ran}
 use Rattle.lvar.proofs.Join as lvar
 use Rattle.lvar.proofs.Join.{lvar-ran}
-use Rattle.bounds.proofs.Grows.{Ordered, length-rows}
-use Rattle.rite.proofs.Fits.{Room}
+use Rattle.debug.proofs.Join as debug
+use Rattle.debug.proofs.Join.{debug-ran}
+use Rattle.debug.specs.Section.{debugOf}
+use Rattle.bounds.proofs.Bounds.{reading-bounds}
+use Rattle.bounds.proofs.Grows.{Ordered, Less, length-rows, same, Grown, section-grows, sections-grow}
+use Rattle.rite.proofs.Fits.{Room, room-less, fits-true, fits-false}
 use Rattle.rite.specs.declared.Used.{Used}
 use Rattle.rite.specs.declared.Progress.{Progress}
 use Rattle.rite.specs.declared.Section.the-variants as section
 use Rattle.rite.specs.declared.Mark.the-variants as mark-is
-use Rattle.rite.specs.Sections.{Out, out, byMark, irepOutOf, lvarOutOf}
+use Rattle.rite.specs.declared.Loaded.{Loaded}
+use Rattle.rite.specs.declared.Loaded.the-variants as loaded-is
+use Rattle.rite.specs.Answers.{loadedOf}
+use Rattle.rite.specs.Sections.{Out, out, byMark, FileOut, loaded, begun, markOf, irepOutOf, lvarOutOf, dbgOutOf, endOutOf, sectionOut, sectionsOut, fileOut}
 
 -- how far reading has come, by what was read
 abbrev isSome : {A : Type 0} → Option A → Bool
@@ -47,9 +56,14 @@ usedIn c =
       strings = length (t .strings);
       names = length (t .names);
       filenames = length (t .fileNames);
-      files = length (t .files);
+      files = length (joined (filesOf c));
       lines = length (t .lines);
     }
+
+-- a row for each debug file
+length-files : (n : ℕ) (fs : List File) → length (fileRows n fs) ≡ length fs
+length-files n [] = refl
+length-files n (f ∷ fs) = ap suc (length-files _ fs)
 
 abbrev progressOf : Content → Progress
 progressOf c = record { irep = isSome (c .irep); lvar = isSome (c .lvar); dbg = isSome (c .dbg); used = usedIn c }
@@ -64,7 +78,7 @@ module _ (limit : ℕ) (m : Nine) (f : List ℕ) (at : ℕ) where
   SectionRan p o =
       Ran (p .end) (Room limit m (p .it)) (λ size. o ≡ out (section.Next size (progressOf (p .it))) (W (p .it))) (λ k. o .ans ≡ section.Refused k)
 
-  pub irep-section : (i : Option (List Rec)) (l : Option Lvar) (d : Option Debug) → Ordered i l d → Room limit m (content i l d)
+  irep-section : (i : Option (List Rec)) (l : Option Lvar) (d : Option Debug) → Ordered i l d → Room limit m (content i l d)
       → SectionRan (once i (content i l d) (let s = irepSection (drop at f) at in part (content (some (s .rows)) l d) (s .end)))
       (byMark f limit at (W (content i l d)) (progressOf (content i l d)) mark-is.Irep)
   unfolding irepOutOf
@@ -134,10 +148,169 @@ module _ (limit : ℕ) (m : Nine) (f : List ℕ) (at : ℕ) where
     lvar-run (Ran.stop k e x g) = rw (counted (content (some rs) none d) r, g) (Ran.stop k e (lvar-room x) refl)
     lvar-run (Ran.full x g) = rw (counted (content (some rs) none d) r, g) (Ran.full (λ z. x (z .strings, z .names)) refl)
 
-  pub lvar-section : (i : Option (List Rec)) (l : Option Lvar) (d : Option Debug) → Ordered i l d → Room limit m (content i l d)
+  lvar-section : (i : Option (List Rec)) (l : Option Lvar) (d : Option Debug) → Ordered i l d → Room limit m (content i l d)
       → SectionRan (afterIrep (content i l d) (λ rs. once l (content i l d) (let s = lvarSection (drop at f) at rs in part (content i (some (s .it)) d) (s .end))))
       (byMark f limit at (W (content i l d)) (progressOf (content i l d)) mark-is.Lvar)
   unfolding lvarOutOf
   lvar-section none l d o r = Ran.stop 6 refl r refl
   lvar-section (some rs) (some l) d o r = Ran.stop 6 refl r refl
   lvar-section (some rs) none d o r = lvar-run rs d r (lvar-ran m (drop at f) at rs (filesOf (content (some rs) none d)))
+
+  -- DBG behind IREP
+  module _ (rs : List Rec) (l : Option Lvar) (r : Room limit m (content (some rs) l none)) where
+    abbrev nss : List (List NameRow)
+    nss = namesOf (content (some rs) l none)
+
+    abbrev Q : Part Debug
+    Q = debugSection (drop at f) at rs
+
+    dbg-room : debug.AllRoom m at rs nss (Q .it) → Room limit m (content (some rs) l (some (Q .it)))
+    dbg-room x =
+        let e = length-rows start rs nss [] in
+        let e′ = length-rows start rs nss (Q .it .files) in
+        let g = length-files 0 (joined (Q .it .files)) in
+        record {
+          limited = omega (arith, r .limited);
+          records = omega (arith, r .records);
+          handlers = r .handlers;
+          pool = r .pool;
+          symbols = r .symbols;
+          strings = r .strings;
+          names = r .names;
+          fileNames = x .0;
+          files = omega (arith, x .1);
+          lines = x .2;
+        }
+
+    dbg-run : debug.SectionRan m at rs nss Q (debugOf (drop at f) at (length rs) (debug.held-debug m at rs nss (record { fileNames = []; files = [] })))
+        → SectionRan (part (content (some rs) l (some (Q .it))) (Q .end)) (byMark f limit at (W (content (some rs) l none)) (progressOf (content (some rs) l none)) mark-is.Dbg)
+    unfolding dbgOutOf
+    dbg-run (Ran.went size e x g) = rw (counted (content (some rs) l none) r, g) (Ran.went size e (dbg-room x) refl)
+    dbg-run (Ran.stop k e x g) = rw (counted (content (some rs) l none) r, g) (Ran.stop k e (dbg-room x) refl)
+    dbg-run (Ran.full x g) = rw (counted (content (some rs) l none) r, g) (Ran.full (λ z. x (z .fileNames, omega (arith, z .files, length-files 0 (joined (Q .it .files))), z .lines)) refl)
+
+  dbg-section : (i : Option (List Rec)) (l : Option Lvar) (d : Option Debug) → Ordered i l d → Room limit m (content i l d)
+      → SectionRan (afterIrep (content i l d) (λ rs. once d (content i l d) (let s = debugSection (drop at f) at rs in part (content i l (some (s .it))) (s .end))))
+      (byMark f limit at (W (content i l d)) (progressOf (content i l d)) mark-is.Dbg)
+  unfolding dbgOutOf
+  dbg-section none l d o r = Ran.stop 6 refl r refl
+  dbg-section (some rs) l (some d) o r = Ran.stop 6 refl r refl
+  dbg-section (some rs) l none o r = dbg-run rs l r (debug-ran m at rs (namesOf (content (some rs) l none)) (drop at f))
+
+  -- END
+  end-section : (c : Content) → Room limit m c → (x : Answer ℕ) → SectionRan (part c x) (out (onAnswer x (λ size. section.Next size (progressOf c)) section.Refused) (W c))
+  end-section c r (ok size) = Ran.went size refl r refl
+  end-section c r (refused k) = Ran.stop k refl r refl
+
+  -- the section at a place, by its mark
+  pub section-ran : (i : Option (List Rec)) (l : Option Lvar) (d : Option Debug) → Ordered i l d → Room limit m (content i l d)
+      → SectionRan (sectionAt f (content i l d) at) (sectionOut f limit at (W (content i l d)) (progressOf (content i l d)))
+  unfolding sectionAt sectionOut markOf endOutOf
+  section-ran i l d o r = by-mark (isMark f at mark.irep) (isMark f at mark.lvar) (isMark f at mark.dbg) (isMark f at mark.end)
+    where
+      by-mark : (p q s e : Bool)
+          → SectionRan
+          (cond p (once i (content i l d) (let s = irepSection (drop at f) at in part (content (some (s .rows)) l d) (s .end)))
+          (cond q (afterIrep (content i l d) (λ rs. once l (content i l d) (let s = lvarSection (drop at f) at rs in part (content i (some (s .it)) d) (s .end))))
+          (cond s (afterIrep (content i l d) (λ rs. once d (content i l d) (let s = debugSection (drop at f) at rs in part (content i l (some (s .it))) (s .end))))
+          (cond e (part (content i l d) (endSection (drop at f))) (part (content i l d) (refused 5))))))
+          (byMark f limit at (W (content i l d)) (progressOf (content i l d)) (cond p mark-is.Irep (cond q mark-is.Lvar (cond s mark-is.Dbg (cond e mark-is.End mark-is.Unknown)))))
+      by-mark true q s e = irep-section i l d o r
+      by-mark false true s e = lvar-section i l d o r
+      by-mark false false true e = dbg-section i l d o r
+      by-mark false false false true = end-section (content i l d) r (endSection (drop at f))
+      by-mark false false false false = Ran.stop 5 refl r refl
+
+-- where a load went on, the rows used with the tables; where it was refused, zeros
+abbrev pub onLoaded : {A : Type 0} → Loaded → (Used → A) → (ℕ → A) → A
+onLoaded (loaded-is.Rows u) k e = k u
+onLoaded (loaded-is.Refused n) k e = e n
+
+module _ (limit : ℕ) (m : Nine) (f : List ℕ) where
+  abbrev held-words : Content → Words
+  held-words c = wordsOf m (tablesOf c)
+
+  abbrev FileRan : Part Content → FileOut → Type 0
+  FileRan p o =
+      Ran (p .end) (Room limit m (p .it)) (λ _. o ≡ loaded (loaded-is.Rows (usedIn (p .it))) (held-words (p .it))) (λ k. o .ans ≡ loaded-is.Refused k)
+
+  -- what comes behind a section only adds
+  rest-grows : (n : ℕ) (c : Content) (at : ℕ) → Ordered (c .irep) (c .lvar) (c .dbg) → (e : Answer ℕ)
+      → Less c (onAnswer e (λ size. sections f n c (at + size)) (λ k. part c (refused k)) .it)
+  rest-grows n c at o (ok size) = sections-grow f n c (at + size) o
+  rest-grows n c at o (refused k) = same c
+
+  sections-ran : (n : ℕ) (c : Content) (at : ℕ) → Ordered (c .irep) (c .lvar) (c .dbg) → Room limit m c
+      → FileRan (sections f n c at) (sectionsOut f limit n at (held-words c) (progressOf c))
+  unfolding sections sectionsOut
+  sections-ran zero c at o r = Ran.went at refl r refl
+  sections-ran (suc n) c at o r = by-there (has f at 4) refl (sections-ran n)
+    where
+      IH : Type 0
+      IH = (c : Content) (at : ℕ) → Ordered (c .irep) (c .lvar) (c .dbg) → Room limit m c
+          → FileRan (sections f n c at) (sectionsOut f limit n at (held-words c) (progressOf c))
+
+      Goal : Type 0
+      Goal = FileRan (sections f (suc n) c at) (sectionsOut f limit (suc n) at (held-words c) (progressOf c))
+
+      grown : Grown c (sectionAt f c at .it)
+      grown = section-grows f at (c .irep) (c .lvar) (c .dbg) o
+
+      by-section : has f at 4 ≡ true → IH → SectionRan limit m f at (sectionAt f c at) (sectionOut f limit at (W limit m f at c) (progressOf c)) → Goal
+      by-section h ih (Ran.went size e x d) = rw (h, e, d) (ih (sectionAt f c at .it) (at + size) (grown .ordered) x)
+      by-section h ih (Ran.stop k e x d) = rw (h, e, d) (Ran.stop k refl x refl)
+      by-section h ih (Ran.full x d) =
+          rw (h, d) (Ran.full (λ z. x (room-less limit m (sectionAt f c at .it) _ (rest-grows n (sectionAt f c at .it) at (grown .ordered) (sectionAt f c at .end)) z)) refl)
+
+      by-there : (b : Bool) → has f at 4 ≡ b → IH → Goal
+      by-there true h ih = by-section h ih (section-ran limit m f at (c .irep) (c .lvar) (c .dbg) o r)
+      by-there false h ih = rw h (Ran.went at refl r refl)
+
+  nothing-room : Room limit m nothing
+  nothing-room = record { limited = omega arith; records = omega arith; handlers = omega arith; pool = omega arith; symbols = omega arith; strings = omega arith; names = omega arith; fileNames = omega arith; files = omega arith; lines = omega arith }
+
+  -- a file, with its tests
+  pub file-ran : FileRan (fileReading f) (fileOut f limit (held-words nothing))
+  unfolding fileReading fileOut
+  file-ran = by-size (ltb 65536 (length f)) (ltb (length f) 20) (majorIs04 f) (ltb (length f) 32)
+    where
+      by-size : (a b c d : Bool)
+          → FileRan
+          (cond a (part nothing (refused 1)) (cond b (part nothing (refused 2)) (cond c (cond d (part nothing (refused 4)) (sections f (length f) nothing 20)) (part nothing (refused 3)))))
+          (cond a (loaded (loaded-is.Refused 1) (held-words nothing)) (cond b (loaded (loaded-is.Refused 2) (held-words nothing))
+          (cond c (cond d (loaded (loaded-is.Refused 4) (held-words nothing)) (sectionsOut f limit (length f) 20 (held-words nothing) begun)) (loaded (loaded-is.Refused 3) (held-words nothing)))))
+      by-size true b c d = Ran.stop 1 refl nothing-room refl
+      by-size false true c d = Ran.stop 2 refl nothing-room refl
+      by-size false false false d = Ran.stop 3 refl nothing-room refl
+      by-size false false true true = Ran.stop 4 refl nothing-room refl
+      by-size false false true false = sections-ran (length f) nothing 20 tt nothing-room
+
+-- THE JOIN: what the sections over zeroed tables come to is the load of the file's reading
+module _ (m : Nine) (f : List ℕ) (bytes : (i : ℕ) → getD f i 0 < 256) where
+  abbrev o : FileOut
+  o = fileOut f 1024 (wordsOf m (tablesOf nothing))
+
+  abbrev p : Part Content
+  p = fileReading f
+
+  is-loaded : (at : ℕ) → p .end ≡ ok at → fits 1024 m (used (tablesOf (p .it))) ≡ true
+      → load f m ≡ record { answer = ok (used (tablesOf (p .it))); tables = wordsOf m (tablesOf (p .it)) }
+  unfolding load loading ending
+  is-loaded at e t = rw (t, e)
+
+  is-refused : (k : ℕ) → p .end ≡ refused k → fits 1024 m (used (tablesOf (p .it))) ≡ true
+      → load f m ≡ record { answer = refused k; tables = wordsOf m (tablesOf nothing) }
+  unfolding load loading ending
+  is-refused k e t = rw (t, e)
+
+  is-full : fits 1024 m (used (tablesOf (p .it))) ≡ false → load f m ≡ record { answer = refused 14; tables = wordsOf m (tablesOf nothing) }
+  unfolding load loading ending
+  is-full t = rw t
+
+  pub load-is : load f m ≡ onLoaded (o .ans) (λ u. loadedOf (loaded-is.Rows u) (o .tables)) (λ e. loadedOf (loaded-is.Refused e) (wordsOf m (tablesOf nothing)))
+  load-is = by-run (file-ran 1024 m f)
+    where
+      by-run : FileRan 1024 m f p o → load f m ≡ onLoaded (o .ans) (λ u. loadedOf (loaded-is.Rows u) (o .tables)) (λ e. loadedOf (loaded-is.Refused e) (wordsOf m (tablesOf nothing)))
+      by-run (Ran.went at e x d) = rw d (is-loaded at e (fits-true 1024 m (p .it) x) ∙ rw (length-rows start (recordsOf (p .it)) (namesOf (p .it)) (filesOf (p .it)), length-files 0 (joined (filesOf (p .it)))))
+      by-run (Ran.stop k e x d) = rw d (is-refused k e (fits-true 1024 m (p .it) x))
+      by-run (Ran.full x d) = rw d (is-full (fits-false 1024 m (p .it) (omega arith) (reading-bounds f bytes) x))

@@ -1,3 +1,4 @@
 pub mod Laws
 pub mod Fits
 pub mod Join
+pub mod Whole

@@ -9,7 +9,8 @@ ghost use mathlib.Core.Path.{_≡_};
 ghost use Prim.Native.Nat.{_+_, _≤_};
 ghost use lib.ListN.{length};
 ghost use Rattle.format.specs.File.{endSection};
-ghost use Rattle.rite.specs.Answers.{words, Zeros, sizeOf};
+ghost use Rattle.format.specs.Load.{load};
+ghost use Rattle.rite.specs.Answers.{words, sizes, Zeros, sizeOf, loadedOf};
 ghost use Rattle.rite.specs.Sections.{matches, markOf, begun, withIrep, withLvar, withDbg, irepOut, irepOutOf, lvarOut, lvarOutOf, dbgOut, dbgOutOf, endOutOf, out, sectionOut, loaded, sectionsOut, fileOut};
 
 // How many rows of each table are used.
@@ -410,7 +411,7 @@ fn read_sections(
 }
 
 // A file: its size, its header's tests, then its sections.
-pub fn read_file(
+fn read_file(
     f: &[u8],
     limit: u32,
     records: &mut [u32],
@@ -481,4 +482,61 @@ fn clear_all(
     clear(filenames);
     clear(files);
     clear(lines);
+}
+
+// Loads a file into nine lent tables, with at most 1,024 records: the tables hold the rows that were read, then zeros; after a refusal zeros alone.
+pub fn load(
+    f: &[u8],
+    records: &mut [u32],
+    handlers: &mut [u32],
+    pool: &mut [u32],
+    symbols: &mut [u32],
+    strings: &mut [u32],
+    names: &mut [u32],
+    filenames: &mut [u32],
+    files: &mut [u32],
+    lines: &mut [u32],
+) -> Loaded
+    ensures { λ r. ⌜ loadedOf r (words (now (records .exit)) (now (handlers .exit)) (now (pool .exit)) (now (symbols .exit)) (now (strings .exit)) (now (names .exit)) (now (filenames .exit)) (now (files .exit)) (now (lines .exit))) ≡ load (now (f .entry)) (sizes (words (now (records .entry)) (now (handlers .entry)) (now (pool .entry)) (now (symbols .entry)) (now (strings .entry)) (now (names .entry)) (now (filenames .entry)) (now (files .entry)) (now (lines .entry)))) ⌝ }
+{
+    clear_all(
+        records,
+        handlers,
+        pool,
+        symbols,
+        strings,
+        names,
+        filenames,
+        files,
+        lines,
+    );
+    match read_file(
+        f,
+        1024,
+        records,
+        handlers,
+        pool,
+        symbols,
+        strings,
+        names,
+        filenames,
+        files,
+        lines,
+    ) {
+        Loaded::Rows(u) => Loaded::Rows(u),
+        Loaded::Refused(e) => {
+            clear_all(
+                records,
+                handlers,
+                pool,
+                symbols,
+                strings,
+                names,
+                filenames,
+                files,
+                lines,
+            );
+            Loaded::Refused(e)
+        }
+    }
 }

@@ -1,0 +1,39 @@
+-- The public load: what the sections over zeroed tables come to, with the tables cleared after a refusal, is the load of the definitions.
+-- Assumes nothing.
+use Prim.Native.Nat.{ℕ, _-_, _<_}
+use native.Mathlib.Omega.{arith}
+use mathlib.Core.Path.{_≡_, sym, ap, _∙_}
+use mathlib.Core.List.{List, []}
+use lib.ListN.{getD, replicate}
+use Rattle.format.specs.Rows.{tableOf}
+use Rattle.format.specs.File.{nothing}
+use Rattle.format.specs.Load.{Words, tablesOf, wordsOf, load}
+use Rattle.rite.specs.declared.Used.{Used}
+use Rattle.rite.specs.declared.Loaded.{Loaded}
+use Rattle.rite.specs.declared.Loaded.the-variants as loaded-is
+use Rattle.rite.specs.Answers.{words, sizes, Zeros, loadedOf}
+use Rattle.rite.specs.Sections.{loaded, fileOut}
+use Rattle.rite.proofs.Laws.{Same}
+use Rattle.rite.proofs.Join.{load-is}
+
+-- a table of no rows is zeros
+blank : {R : Type 0} (ws : R → List ℕ) (n : ℕ) → tableOf ws n [] ≡ replicate n 0
+blank ws n = let e : n - 0 ≡ n = omega arith in rw e
+
+pub zero-words : (t : Words) (a b c d e g h i j : List ℕ) → Zeros t (words a b c d e g h i j) → words a b c d e g h i j ≡ wordsOf (sizes t) (tablesOf nothing)
+zero-words t a b c d e g h i j z =
+    rw (z .records, z .handlers, z .pool, z .symbols, z .strings, z .names, z .fileNames, z .files, z .lines, blank, blank, blank, blank, blank, blank, blank, blank, blank)
+
+pub same-sizes : (t t′ : Words) → Same t t′ → sizes t ≡ sizes t′
+same-sizes t t′ s = rw (s .records, s .handlers, s .pool, s .symbols, s .strings, s .names, s .fileNames, s .files, s .lines)
+
+module _ (f : List ℕ) (bytes : (i : ℕ) → getD f i 0 < 256) (t t₁ t₂ : Words) (z : t₁ ≡ wordsOf (sizes t) (tablesOf nothing)) (r : Loaded) (e : loaded r t₂ ≡ fileOut f 1024 t₁) where
+  pub load-went : (u : Used) → r ≡ loaded-is.Rows u → loadedOf (loaded-is.Rows u) t₂ ≡ load f (sizes t)
+  load-went u q =
+      let o : fileOut f 1024 (wordsOf (sizes t) (tablesOf nothing)) ≡ loaded (loaded-is.Rows u) t₂ = ap (fileOut f 1024) (sym z) ∙ sym e ∙ ap (λ x. loaded x t₂) q in
+      sym (load-is (sizes t) f bytes ∙ rw o)
+
+  pub load-refused : (k : ℕ) → r ≡ loaded-is.Refused k → (t₃ : Words) → t₃ ≡ wordsOf (sizes t) (tablesOf nothing) → loadedOf (loaded-is.Refused k) t₃ ≡ load f (sizes t)
+  load-refused k q t₃ y =
+      let o : fileOut f 1024 (wordsOf (sizes t) (tablesOf nothing)) ≡ loaded (loaded-is.Refused k) t₂ = ap (fileOut f 1024) (sym z) ∙ sym e ∙ ap (λ x. loaded x t₂) q in
+      ap (loadedOf (loaded-is.Refused k)) y ∙ sym (load-is (sizes t) f bytes ∙ rw o)
