@@ -1,4 +1,4 @@
-//! Paper 01 as plain Rust, written from the paper: slow, readable, without any `unsafe`.
+//! Paper 01 as plain Rust: slow, readable, without any `unsafe`. Opcode names and operand kinds are those of insn.rs.
 //!
 //! Comments in quotation marks are the paper's own words.
 //! A refusal is its number; 0 stands for none where a number is answered.
