@@ -12,3 +12,9 @@ pub mod Load
 pub mod Insn
 pub mod Rules
 pub mod Line
+pub mod Lookup
+pub mod Pattern
+pub mod Tree
+pub mod Exam
+pub mod Run
+pub mod Claim

@@ -205,8 +205,11 @@ pub record Loaded : Type 0 where
   pub answer : Answer Nine
   pub tables : Words
 
-unfoldable pub load : List ℕ → Nine → Loaded
-load f m =
-    onAnswer (loading f m)
+abbrev pub laid : Nine → Answer Content → Loaded
+laid m a =
+    onAnswer a
     (λ c. record { answer = ok (used (tablesOf c)); tables = wordsOf m (tablesOf c) })
     (λ e. record { answer = refused e; tables = wordsOf m (tablesOf nothing) })
+
+unfoldable pub load : List ℕ → Nine → Loaded
+load f m = laid m (loading f m)

@@ -1,0 +1,55 @@
+-- Demand 3: what holds of the run of a passing file along every list of choices, one claim about the whole list.
+-- Assumes nothing.
+use Prim.Native.Nat.{ℕ, suc, _-_, _/_, _≤_, _<_}
+use mathlib.Core.Path.{_≡_}
+use mathlib.Core.Logic.{_↔_}
+use mathlib.Core.List.{List, [], _∷_}
+use mathlib.Core.Option.{some}
+use lib.Dec.{T}
+use lib.ListN.{length, getD}
+use Rattle.format.specs.Bytes.{Answer, ok, refused}
+use Rattle.format.specs.Irep.{Rec}
+use Rattle.format.specs.Lvar.{Lvar}
+use Rattle.format.specs.File.{Content}
+use Rattle.format.specs.Load.{Nine, loading, recordsOf}
+use Rattle.format.specs.Insn.{plain, roles, rowAt, operandsAt}
+use Rattle.format.specs.Line.{lineAt, lastAtOrBelow}
+use Rattle.format.specs.Pattern.{Pattern, patternOf, recAt, Begins}
+use Rattle.format.specs.Exam.{readable, Below}
+use Rattle.format.specs.Run.{Choice, Frame, frame, codeOf, run, choices, finished, stands, frameTable, follow}
+
+-- A frame "is where an instruction begins, whose register, pool, symbol and child operands are below its record's counts by their roles";
+-- its "line is that of the last map entry at or below its offset, or none".
+pub record FrameHolds (p : Pattern) (f : Frame) : Type 0 where
+  pub inside : f .rec < length p
+  pub starts : Begins (codeOf p f) (f .at)
+  pub whole : T (readable (codeOf p f) (f .at))
+  pub operands : (i : ℕ) → i < length (roles (rowAt (codeOf p f) (f .at)))
+      → Below (recAt p (f .rec)) (getD (roles (rowAt (codeOf p f) (f .at))) i plain) (getD (operandsAt (codeOf p f) (f .at)) i 0)
+  pub line : lineAt (recAt p (f .rec) .lines) (f .at) ≡ lastAtOrBelow (recAt p (f .rec) .lines) (f .at)
+
+-- "Follow answers finished exactly when the run is, else top frame, line and number of frames, and its frame table holds the frames, lowest
+-- first, then zeros": a call of follow with these bytes, over lent tables in which the file loads and a frame table of n words that has a
+-- row for each record.
+pub record FollowHolds (f : List ℕ) (c : Content) (fs : List Frame) (m : Nine) (n : ℕ) (bs : List ℕ) : Type 0 where
+  pub done : (follow f m n bs .answer ≡ ok finished) ↔ (fs ≡ [])
+  pub top : (g : Frame) (gs : List Frame) → fs ≡ g ∷ gs
+      → follow f m n bs .answer ≡ ok (stands g (lastAtOrBelow (recAt (patternOf f c) (g .rec) .lines) (g .at)) (length fs))
+  pub table : follow f m n bs .frames ≡ frameTable n fs
+
+pub record Claim (f : List ℕ) (c : Content) (cs : List Choice) : Type 0 where
+  -- the run is finished, or each of its frames holds
+  pub frames : (i : ℕ) → i < length (run (patternOf f c) cs) → FrameHolds (patternOf f c) (getD (run (patternOf f c) cs) i (frame 0 0))
+  -- from the top down the records fall
+  pub falls : (i : ℕ) → suc i < length (run (patternOf f c) cs)
+      → getD (run (patternOf f c) cs) (suc i) (frame 0 0) .rec < getD (run (patternOf f c) cs) i (frame 0 0) .rec
+  -- "the frames never outnumber the records"
+  pub few : length (run (patternOf f c) cs) ≤ length (recordsOf c)
+  -- "with an LVAR section each record has nlocals - 1 names"
+  pub names : (l : Lvar) → c .lvar ≡ some l → (i : ℕ) (r : Rec) → i < length (recordsOf c)
+      → length (getD (l .names) i []) ≡ getD (recordsOf c) i r .head .nlocals - 1
+  pub follows : (m : Nine) (n : ℕ) (bs : List ℕ) → loading f m ≡ ok c → length (recordsOf c) ≤ n / 2 → choices bs ≡ ok cs
+      → FollowHolds f c (run (patternOf f c) cs) m n bs
+  -- "bytes that are no list of choices meet 21"
+  pub others : (m : Nine) (n : ℕ) (bs : List ℕ) → loading f m ≡ ok c → length (recordsOf c) ≤ n / 2 → ((ds : List Choice) → ¬ (choices bs ≡ ok ds))
+      → (follow f m n bs .answer ≡ refused 21) × (follow f m n bs .frames ≡ frameTable n [])

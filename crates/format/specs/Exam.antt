@@ -1,0 +1,199 @@
+-- Examination: conditions 15 to 20 of paper 01, and the examination that answers the first that is met in the paper's order.
+-- Assumes nothing.
+use Prim.Native.Nat.{ℕ, zero, suc, _<_}
+use mathlib.Core.Path.{_≡_}
+use mathlib.Core.Logic.{_⊎_}
+use mathlib.Core.Bool.{Bool, true, false, _&&_, not, cond}
+use mathlib.Core.List.{List, [], _∷_}
+use lib.Dec.{T, ltb, leb, eqb}
+use lib.ListN.{length, getD}
+use Rattle.format.specs.Bytes.{Answer, ok, refused, bind}
+use Rattle.format.specs.File.{Content}
+use Rattle.format.specs.Load.{Nine, Loaded, loading, laid}
+use Rattle.format.specs.Insn.{Role, reg, pool, sym, child, plain, Flow, on, ends, jumps, may, roles, flow, known, prefix, opcode, rowAt, operandsAt, rest, next}
+use Rattle.format.specs.Line.{entry, rising}
+use Rattle.format.specs.Tree.{Whole, whole}
+use Rattle.format.specs.Pattern.{Record, Pattern, patternOf, ilen, clen, recAt, rlens, begins, lands}
+
+-- The tests at an instruction.
+
+-- 16: a known opcode, no prefix, whole inside the record
+unfoldable pub readable : List ℕ → ℕ → Bool
+readable c o = known (opcode c o) && not (prefix (opcode c o)) && leb (next c o) (length c)
+
+-- 17: an operand is "below nregs, pool count, symbol count or rlen by its role"
+abbrev pub Below : Record → Role → ℕ → Type 0
+Below r reg v = v < r .nregs
+Below r pool v = v < r .npool
+Below r sym v = v < r .nsyms
+Below r child v = v < r .rlen
+Below r plain v = Unit {0}
+
+unfoldable pub below : Record → Role → ℕ → Bool
+below r reg v = ltb v (r .nregs)
+below r pool v = ltb v (r .npool)
+below r sym v = ltb v (r .nsyms)
+below r child v = ltb v (r .rlen)
+below r plain v = true
+
+unfoldable pub allBelow : Record → List Role → List ℕ → Bool
+allBelow r [] vs = true
+allBelow r (x ∷ xs) [] = true
+allBelow r (x ∷ xs) (v ∷ vs) = below r x v && allBelow r xs vs
+
+unfoldable pub operandsBelow : Record → ℕ → Bool
+operandsBelow r o = allBelow r (roles (rowAt (r .code) o)) (operandsAt (r .code) o)
+
+-- 18: an instruction begins where the run can go on; n: one begins at the next offset; t: one begins at the target
+abbrev pub leads : Flow → Bool → Bool → Bool
+leads on n t = n
+leads ends n t = true
+leads jumps n t = t
+leads may n t = n && t
+
+unfoldable pub follows : List ℕ → ℕ → Bool
+follows c o = leads (flow (rowAt c o)) (begins c (next c o)) (lands c o)
+
+-- The conditions. First of one record:
+
+-- "16: in a record, reading from 0, an opcode above 118, a prefix opcode (115 to 117), a cut instruction, or ilen 0."
+pub record Unreadable (r : Record) : Type 0 where
+  pub at : ℕ
+  pub starts : T (begins (r .code) at)
+  pub fails : T (not (readable (r .code) at))
+
+abbrev pub Bad16 : Record → Type 0
+Bad16 r = (ilen r ≡ 0) ⊎ Unreadable r
+
+-- "17: an operand not below nregs, pool count, symbol count or rlen by its role."
+pub record Bad17 (r : Record) : Type 0 where
+  pub at : ℕ
+  pub starts : T (begins (r .code) at)
+  pub i : ℕ
+  pub given : i < length (roles (rowAt (r .code) at))
+  pub above : ¬ Below r (getD (roles (rowAt (r .code) at)) i plain) (getD (operandsAt (r .code) at) i 0)
+
+-- "18: a jump target, or the next offset of a neither ending nor JMP nor JMPUW instruction, where none begins."
+abbrev pub hasNext : Flow → Bool
+hasNext on = true
+hasNext ends = false
+hasNext jumps = false
+hasNext may = true
+
+abbrev pub hasTarget : Flow → Bool
+hasTarget on = false
+hasTarget ends = false
+hasTarget jumps = true
+hasTarget may = true
+
+pub record Bad18 (r : Record) : Type 0 where
+  pub at : ℕ
+  pub starts : T (begins (r .code) at)
+  pub lost : (T (hasNext (flow (rowAt (r .code) at))) × T (not (begins (r .code) (next (r .code) at))))
+      ⊎ (T (hasTarget (flow (rowAt (r .code) at))) × T (not (lands (r .code) at)))
+
+-- "19: a handler target where none begins."
+pub record Bad19 (r : Record) : Type 0 where
+  pub h : ℕ
+  pub given : h < clen r
+  pub none-begins : T (not (begins (r .code) (getD (r .handlers) h 0)))
+
+-- "20: a map position below the one before it."
+pub record Bad20 (r : Record) : Type 0 where
+  pub i : ℕ
+  pub given : suc i < length (r .lines)
+  pub falls : entry (r .lines) (suc i) .pos < entry (r .lines) i .pos
+
+-- then of a pattern: one of its records is so
+pub record Some (P : Record → Type 0) (p : Pattern) : Type 0 where
+  pub rec : ℕ
+  pub inside : rec < length p
+  pub holds : P (recAt p rec)
+
+-- condition n is met. "15: the tree is not whole."
+pub data Meets (p : Pattern) : ℕ → Type 0 where
+  meets15 : ¬ Whole (rlens p) → Meets p 15
+  meets16 : Some Bad16 p → Meets p 16
+  meets17 : Some Bad17 p → Meets p 17
+  meets18 : Some Bad18 p → Meets p 18
+  meets19 : Some Bad19 p → Meets p 19
+  meets20 : Some Bad20 p → Meets p 20
+
+-- a loaded pattern that "meets none of 15 to 20"
+abbrev pub Passes : Pattern → Type 0
+Passes p = (n : ℕ) → ¬ Meets p n
+
+-- "A file that passes is one that loads in some lent tables and meets none of 15 to 20."
+pub record FilePasses (f : List ℕ) : Type 0 where
+  pub tables : Nine
+  pub content : Content
+  pub loads : loading f tables ≡ ok content
+  pub passes : Passes (patternOf f content)
+
+-- Examination. Its answer is a number, 0 where nothing is met.
+
+-- n where a test fails
+abbrev pub refuse : ℕ → Bool → ℕ
+refuse n true = 0
+refuse n false = n
+
+-- the first refusal of two
+abbrev pub first : ℕ → ℕ → ℕ
+first zero n = n
+first (suc m) n = suc m
+
+-- the first refusal over the instructions, reading from 0; `left` as in `reach`, o the offset of the list's first byte
+unfoldable pub firstAt : (ℕ → ℕ) → List ℕ → ℕ → ℕ → ℕ
+firstAt f [] left o = 0
+firstAt f (b ∷ bs) zero o = first (f o) (firstAt f bs (rest b bs) (suc o))
+firstAt f (b ∷ bs) (suc left) o = firstAt f bs left (suc o)
+
+-- the first refusal over a list
+unfoldable pub firstOf : (ℕ → ℕ) → List ℕ → ℕ
+firstOf f [] = 0
+firstOf f (x ∷ xs) = first (f x) (firstOf f xs)
+
+-- "16 over the whole record"
+abbrev pub at16 : List ℕ → ℕ → ℕ
+at16 c o = refuse 16 (readable c o)
+
+unfoldable pub exam16 : List ℕ → ℕ
+exam16 c = first (refuse 16 (ltb 0 (length c))) (firstAt (at16 c) c 0 0)
+
+-- "17 before 18 at each instruction in turn"
+abbrev pub at1718 : Record → ℕ → ℕ
+at1718 r o = first (refuse 17 (operandsBelow r o)) (refuse 18 (follows (r .code) o))
+
+unfoldable pub exam1718 : Record → ℕ
+exam1718 r = firstAt (at1718 r) (r .code) 0 0
+
+-- "then 19 over the handlers"
+unfoldable pub exam19 : Record → ℕ
+exam19 r = firstOf (λ (t : ℕ). refuse 19 (begins (r .code) t)) (r .handlers)
+
+-- "then 20 over the map"
+unfoldable pub exam20 : Record → ℕ
+exam20 r = refuse 20 (rising (r .lines))
+
+unfoldable pub examineRecord : Record → ℕ
+examineRecord r = first (exam16 (r .code)) (first (exam1718 r) (first (exam19 r) (exam20 r)))
+
+unfoldable pub examineAll : List Record → ℕ
+examineAll [] = 0
+examineAll (r ∷ rs) = first (examineRecord r) (examineAll rs)
+
+-- "Examination tests 15 first, then record by record"
+unfoldable pub examinePattern : Pattern → ℕ
+examinePattern p = first (refuse 15 (whole (rlens p))) (examineAll p)
+
+-- what was loaded, where it meets none
+unfoldable pub passing : List ℕ → Content → Answer Content
+passing f c = cond (eqb (examinePattern (patternOf f c)) 0) (ok c) (refused (examinePattern (patternOf f c)))
+
+-- "Examination loads the file first."
+unfoldable pub examining : List ℕ → Nine → Answer Content
+examining f m = bind (loading f m) (passing f)
+
+-- what an examination answers, and what the tables hold afterwards: the rows used, as load does
+unfoldable pub examine : List ℕ → Nine → Loaded
+examine f m = laid m (examining f m)
