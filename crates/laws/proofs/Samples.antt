@@ -1,7 +1,8 @@
--- Paper 01's starred samples of loading, packed numbers, maps and instructions, as one table of the definitions.
+-- Paper 01's starred samples, as one table of the definitions, with some that it does not star.
 -- Assumes nothing.
 use Prim.Native.Nat.{ℕ}
 use mathlib.Core.Path.{_≡_, refl}
+use mathlib.Core.Bool.{true, false}
 use mathlib.Core.List.{List, [], _∷_}
 use mathlib.Core.Option.{none, some}
 use lib.ListN.{replicate}
@@ -15,7 +16,11 @@ use Rattle.format.specs.Packed.{packedFrom, packed, packedEntry}
 use Rattle.format.specs.Debug.{fileHead, mapEntry, mapLines, filesFrom, debugRecord, debugContent, debugSection}
 use Rattle.format.specs.File.{endSection, sectionAt, sections, fileReading}
 use Rattle.format.specs.Load.{Nine, fits, ending, loading, load}
-use Rattle.format.specs.Line.{halve, lineAt}
+use Rattle.format.specs.Line.{halve, lineAt, rising}
+use Rattle.format.specs.Tree.{layout, whole, span, childOf}
+use Rattle.format.specs.Pattern.{Record, reach, lands}
+use Rattle.format.specs.Exam.{readable, below, allBelow, operandsBelow, follows, firstAt, firstOf, exam16, exam1718, exam19, exam20, examineRecord, examineAll, examinePattern, passing, examining, examine}
+use Rattle.format.specs.Run.{frame, go-on, caught, leave, childOperand, move, oneStep, runFrom, choicesFrom, choices, finished, stands, standing, laidFrames, frameTable, following, follow}
 
 -- File A: header, an IREP section with one record, END
 abbrev fileA : List ℕ
@@ -28,6 +33,10 @@ fileA =
 -- tables with so many words for records, and none for the rest
 lent : ℕ → Nine
 lent n = record { records = n; handlers = 0; pool = 0; symbols = 0; strings = 0; names = 0; fileNames = 0; files = 0; lines = 0 }
+
+-- a pattern of one record with these instructions
+alone : List ℕ → List Record
+alone c = record { nregs = 2; rlen = 0; npool = 0; nsyms = 0; code = c; handlers = []; lines = [] } ∷ []
 
 record Table : Type 0 where
   a-loads : load fileA (lent 38) .answer ≡ ok (lent 1)
@@ -43,9 +52,23 @@ record Table : Type 0 where
   wide : fetch (57 ∷ 1 ∷ 2 ∷ 3 ∷ []) ≡ ok (insn W (66051 ∷ []))
   jumps-back : fetch (38 ∷ 255 ∷ 253 ∷ []) ≡ ok (insn S (65533 ∷ []))
   jumps-to-itself : target (38 ∷ 255 ∷ 253 ∷ []) 0 ≡ 0
+  itself-passes : examinePattern (alone (38 ∷ 255 ∷ 253 ∷ [])) ≡ 0
+  before-the-start : examinePattern (alone (38 ∷ 255 ∷ 252 ∷ [])) ≡ 18
+  whole-tree : whole (2 ∷ 0 ∷ 0 ∷ []) ≡ true
+  no-tree : whole (0 ∷ 1 ∷ []) ≡ false
+  no-records : examinePattern [] ≡ 15
+  a-passes : examine fileA (lent 38) .answer ≡ ok (lent 1)
+  a-goes-on : follow fileA (lent 38) 2 (0 ∷ []) .answer ≡ ok (stands (frame 0 2) none 1)
+  a-frames : follow fileA (lent 38) 5 (0 ∷ []) .frames ≡ 0 ∷ 2 ∷ 0 ∷ 0 ∷ 0 ∷ []
+  a-finishes : follow fileA (lent 38) 2 (0 ∷ 0 ∷ []) .answer ≡ ok finished
+  a-choices : follow fileA (lent 38) 2 (0 ∷ 5 ∷ []) .answer ≡ refused 21
+  a-short : follow fileA (lent 38) 1 (0 ∷ 5 ∷ []) .answer ≡ refused 14
+  list : choices (0 ∷ 3 ∷ 1 ∷ 2 ∷ 4 ∷ []) ≡ ok (go-on ∷ caught 258 ∷ leave ∷ [])
+  above : choices (5 ∷ []) ≡ refused 21
+  cut : choices (3 ∷ 1 ∷ []) ≡ refused 21
 
 samples : Table
-unfolding table row operands opcode rest lastOf jump target fetchAs fetch packedFrom packed halve lineAt handler zeroLast text bigInteger poolValue poolEntry counted headAt bodyAt recordAt recordsFrom irepSection walk noZero plainText nameEntry recordNames lvarSection fileHead mapEntry mapLines filesFrom debugRecord debugContent debugSection packedEntry endSection sectionAt sections fileReading fits ending loading load lent
+unfolding table row operands opcode rest lastOf jump target fetchAs fetch packedFrom packed halve lineAt handler zeroLast text bigInteger poolValue poolEntry counted headAt bodyAt recordAt recordsFrom irepSection walk noZero plainText nameEntry recordNames lvarSection fileHead mapEntry mapLines filesFrom debugRecord debugContent debugSection packedEntry endSection sectionAt sections fileReading fits ending loading load lent alone rising layout span childOf reach lands readable below allBelow operandsBelow follows firstAt firstOf exam16 exam1718 exam19 exam20 examineRecord examineAll examinePattern passing examining examine childOperand move oneStep runFrom choicesFrom standing laidFrames frameTable following follow
 samples = record {
   a-loads = refl;
   a-row = refl;
@@ -60,4 +83,18 @@ samples = record {
   wide = refl;
   jumps-back = refl;
   jumps-to-itself = refl;
+  itself-passes = refl;
+  before-the-start = refl;
+  whole-tree = refl;
+  no-tree = refl;
+  no-records = refl;
+  a-passes = refl;
+  a-goes-on = refl;
+  a-frames = refl;
+  a-finishes = refl;
+  a-choices = refl;
+  a-short = refl;
+  list = refl;
+  above = refl;
+  cut = refl;
 }

@@ -1,0 +1,142 @@
+-- Demand 3, for every file that passes and every list of choices.
+-- Assumes nothing.
+use Prim.Native.Nat.{ℕ, suc, _+_, _-_, _*_, _/_, _≤_, _<_}
+use native.Mathlib.Nat.{le-refl}
+use native.Mathlib.Omega.{arith}
+use mathlib.Core.Path.{_≡_, refl, sym, ap, subst, _∙_}
+use mathlib.Core.Bool.{Bool, true, false, cond}
+use mathlib.Core.List.{List, [], _∷_}
+use mathlib.Core.Option.{some}
+use lib.Dec.{eqb}
+use lib.ListN.{length, getD, drop}
+use borrow.Author.Tests.{le-leb}
+use Rattle.format.specs.Bytes.{Answer, ok, refused}
+use Rattle.format.specs.Irep.{Rec}
+use Rattle.format.specs.Lvar.{Lvar}
+use Rattle.format.specs.Debug.{File}
+use Rattle.format.specs.File.{Content}
+use Rattle.format.specs.Load.{Nine, recordsOf, namesOf, filesOf, loading}
+use Rattle.format.specs.Tree.{Whole}
+use Rattle.format.specs.Pattern.{recordsWith, patternOf, rlens}
+use Rattle.format.specs.Exam.{FilePasses, examinePattern, passing}
+use Rattle.format.specs.Run.{Choice, go-on, jump, enter, leave, caught, run, Due, kind, high, low, put, byKind, choicesFrom, choices, standing, frameTable, following, follow}
+use Rattle.format.specs.Claim.{FollowHolds, Claim}
+use Rattle.layout.proofs.Inside.{loading-reading}
+use Rattle.layout.proofs.Pattern.{pattern-length}
+use Rattle.runs.proofs.Tree.{whole-iff}
+use Rattle.runs.proofs.Exact.{good-file}
+use Rattle.runs.proofs.Refusal.{passes-iff}
+use Rattle.runs.proofs.Frame.{stack-frames, stack-falls, stack-few, run-stack, done-iff, top-is}
+use Rattle.laws.proofs.Walk as walk
+
+pattern-rlens : (f : List ℕ) (rs : List Rec) (fss : List (List File)) → rlens (recordsWith f rs fss) ≡ walk.rlens rs
+pattern-rlens f [] fss = refl
+pattern-rlens f (r ∷ rs) fss = ap (λ l. r .head .rlen ∷ l) (pattern-rlens f rs (drop 1 fss))
+
+ok-same : {A : Type 0} {a b : A} → ok a ≡ ok b → a ≡ b
+ok-same e = cc
+
+-- bytes are a list of choices, or meet 21
+data Choices : Answer (List Choice) → Type 0 where
+  are : (cs : List Choice) → Choices (ok cs)
+  meet21 : Choices (refused 21)
+
+put-choices : (x : Choice) (a : Answer (List Choice)) → Choices a → Choices (put x a)
+put-choices x a (are cs) = are (x ∷ cs)
+put-choices x a meet21 = meet21
+
+kind-choices : (b : ℕ) (a : Answer (List Choice)) → Choices a → Choices (byKind b a)
+kind-choices b a h = go (eqb b 0) (eqb b 1) (eqb b 2) (eqb b 3) (eqb b 4)
+  where
+    go : (p q r s t : Bool) → Choices (cond p (put go-on a) (cond q (put jump a) (cond r (put enter a) (cond s a (cond t (put leave a) (refused 21))))))
+    go true q r s t = put-choices go-on a h
+    go false true r s t = put-choices jump a h
+    go false false true s t = put-choices enter a h
+    go false false false true t = h
+    go false false false false true = put-choices leave a h
+    go false false false false false = meet21
+
+choices-or : (d : Due) (bs : List ℕ) → Choices (choicesFrom d bs)
+unfolding choicesFrom
+choices-or kind [] = are []
+choices-or high [] = meet21
+choices-or (low h) [] = meet21
+choices-or kind (b ∷ bs) = kind-choices b _ (choices-or (cond (eqb b 3) high kind) bs)
+choices-or high (b ∷ bs) = choices-or (low b) bs
+choices-or (low h) (b ∷ bs) = put-choices (caught (h * 256 + b)) _ (choices-or kind bs)
+
+refused-21 : (bs : List ℕ) → ((ds : List Choice) → ¬ (choices bs ≡ ok ds)) → choices bs ≡ refused 21
+refused-21 bs none-are = go (choices bs) refl (choices-or kind bs)
+  where
+    go : (a : Answer (List Choice)) → choices bs ≡ a → Choices a → choices bs ≡ refused 21
+    go a e (are cs) = absurd (none-are cs e)
+    go a e meet21 = e
+
+module _ (f : List ℕ) (c : Content) (e0 : examinePattern (patternOf f c) ≡ 0) (m : Nine) (n : ℕ) (bs : List ℕ)
+    (l : loading f m ≡ ok c) (h : length (recordsOf c) ≤ n / 2) where
+  passed : passing f c ≡ ok c
+  unfolding passing
+  passed = rw e0
+
+  follow-ok : (cs : List Choice) → choices bs ≡ ok cs
+      → following f m n bs ≡ ok (record { content = c; frames = run (patternOf f c) cs })
+  unfolding following
+  follow-ok cs e = rw (l, le-leb (length (recordsOf c)) (n / 2) h, passed, e)
+
+  follow-21 : choices bs ≡ refused 21 → following f m n bs ≡ refused 21
+  unfolding following
+  follow-21 e = rw (l, le-leb (length (recordsOf c)) (n / 2) h, passed, e)
+
+  answer-is : (cs : List Choice) → choices bs ≡ ok cs → follow f m n bs .answer ≡ ok (standing (patternOf f c) (run (patternOf f c) cs))
+  unfolding follow
+  answer-is cs e = let q = follow-ok cs e in rw q
+
+  frames-are : (cs : List Choice) → choices bs ≡ ok cs → follow f m n bs .frames ≡ frameTable n (run (patternOf f c) cs)
+  unfolding follow
+  frames-are cs e = let q = follow-ok cs e in rw q
+
+  pub follow-holds : (cs : List Choice) → choices bs ≡ ok cs → FollowHolds f c (run (patternOf f c) cs) m n bs
+  follow-holds cs e =
+      let p = patternOf f c in
+      let G = good-file p e0 in
+      let a = answer-is cs e in
+      record {
+        done = (λ k. done-iff p G (run p cs) .0 (ok-same (sym a ∙ k)), λ k. a ∙ ap ok (done-iff p G (run p cs) .1 k));
+        top = λ g gs k. a ∙ ap ok (top-is p G g gs (run p cs) (run-stack p G cs) k);
+        table = frames-are cs e;
+      }
+
+  pub others-21 : ((ds : List Choice) → ¬ (choices bs ≡ ok ds)) → (follow f m n bs .answer ≡ refused 21) × (follow f m n bs .frames ≡ frameTable n [])
+  unfolding follow
+  others-21 none-are = let q = follow-21 (refused-21 bs none-are) in rw q (refl, refl)
+
+-- what was read has nlocals - 1 names for each record, where its tree is whole
+abbrev AllNamed : Content → Type 0
+AllNamed c = (l : Lvar) → c .lvar ≡ some l → Whole (walk.rlens (recordsOf c)) → (i : ℕ) (r : Rec) → i < length (recordsOf c)
+    → walk.Named (getD (recordsOf c) i r) (getD (namesOf c) i [])
+
+names-of : (f : List ℕ) (c : Content) (m : Nine) → loading f m ≡ ok c → Whole (rlens (patternOf f c)) → (l : Lvar) → c .lvar ≡ some l → (i : ℕ) (r : Rec) → i < length (recordsOf c)
+    → length (getD (l .names) i []) ≡ getD (recordsOf c) i r .head .nlocals - 1
+names-of f c m q w l e i r h =
+    let x = loading-reading f m c q in
+    let all : AllNamed c = subst AllNamed (x .0) (walk.file-names f (x .1 .0) (x .1 .1)) in
+    let named = all l e (rw (pattern-rlens f (recordsOf c) (filesOf c)) at w) i r h .names in
+    rw e at named
+
+module _ (f : List ℕ) (x : FilePasses f) where
+  pub demand3 : (cs : List Choice) → Claim f (x .content) cs
+  demand3 cs =
+      let c = x .content in
+      let p = patternOf f c in
+      let e0 = passes-iff p .1 (x .passes) in
+      let G = good-file p e0 in
+      let s = run-stack p G cs in
+      let n = pattern-length f (recordsOf c) (filesOf c) in
+      record {
+        frames = stack-frames p G (run p cs) (length p) (le-refl (length p)) s;
+        falls = stack-falls p G (run p cs) (length p) s;
+        few = omega (arith, stack-few p G (run p cs) (length p) s, n);
+        names = names-of f c (x .tables) (x .loads) (whole-iff (rlens p) .0 (G .tree));
+        follows = λ m n bs l h e. follow-holds f c e0 m n bs l h cs e;
+        others = λ m n bs l h no-list. others-21 f c e0 m n bs l h no-list;
+      }

@@ -1,0 +1,114 @@
+-- What holds of what was read, where the reading ended well: of each row, of a part, and of a whole file.
+-- Assumes nothing.
+use Prim.Native.Nat.{ℕ, zero, suc, _+_, _≤_, _<_}
+use native.Mathlib.Nat.{le-of-suc-le-suc}
+use native.Mathlib.Omega.{arith}
+use mathlib.Core.Path.{_≡_, refl, ap}
+use mathlib.Core.Bool.{Bool, true, false, cond}
+use mathlib.Core.List.{List, [], _∷_}
+use lib.Dec.{ltb}
+use lib.ListN.{length, getD}
+use borrow.Author.Tests.{ltb-false}
+use Rattle.format.specs.Bytes.{Answer, ok, refused, bind, onAnswer, Step, has}
+use Rattle.format.specs.Reading.{Read, Part, part, andThen, more, inTurn}
+use Rattle.format.specs.File.{Content, sectionAt, sections, nothing, majorIs04, fileReading}
+
+-- an answer is a value or a refusal, not both
+pub ok-refused : {A : Type 0} {a : A} {e : ℕ} → refused e ≡ ok a → ⊥
+ok-refused h = let z : _≡_ {A = ℕ} 0 1 = cc in omega arith
+
+-- what holds either way of a test holds of its outcome
+pub either : {A : Type 0} (P : A → Type 0) (b : Bool) (x y : A) → (b ≡ true → P x) → (b ≡ false → P y) → P (cond b x y)
+either P true x y h g = h refl
+either P false x y h g = g refl
+
+-- what holds of the value that was answered, if one was
+abbrev pub Answers : {A : Type 0} → (A → Type 0) → Answer A → Type 0
+Answers P (ok a) = P a
+Answers P (refused e) = Unit {0}
+
+module _ {A : Type 0} (P : A → Type 0) where
+  -- a test that refuses
+  pub tested : (b : Bool) (x : Answer A) (e : ℕ) → (b ≡ true → Answers P x) → Answers P (cond b x (refused e))
+  tested b x e h = either (Answers P) b x (refused e) h (λ _. tt)
+
+  -- an answer made of another's value
+  pub chained : {B : Type 0} (Q : B → Type 0) (x : Answer B) (k : B → Answer A) → Answers Q x → ((b : B) → Q b → Answers P (k b)) → Answers P (bind x k)
+  chained Q (ok b) k q h = h b q
+  chained Q (refused e) k q h = tt
+
+-- an answer that was made of another's value, and a reading behind another: the first was not refused
+pub bind-ok : {A B : Type 0} (x : Answer A) (k : A → Answer B) (b : B) → bind x k ≡ ok b → (a : A) × (x ≡ ok a) × (k a ≡ ok b)
+bind-ok (ok a) k b e = (a, refl, e)
+bind-ok (refused n) k b e = absurd (ok-refused e)
+
+pub andThen-ok : {R : Type 0} (x : Answer ℕ) (k : ℕ → Read R) (to : ℕ) → andThen x k .end ≡ ok to → (at : ℕ) × (x ≡ ok at) × (k at .end ≡ ok to)
+andThen-ok (ok at) k to e = (at, refl, e)
+andThen-ok (refused n) k to e = absurd (ok-refused e)
+
+-- P holds of each element of a list
+abbrev pub Each : {A : Type 0} → (A → Type 0) → List A → Type 0
+Each {A = A} P l = (i : ℕ) (d : A) → i < length l → P (getD l i d)
+
+module _ {A : Type 0} (P : A → Type 0) where
+  pub each-none : Each P []
+  each-none i d h = absurd (omega arith)
+
+  pub each-more : (a : A) (l : List A) → P a → Each P l → Each P (a ∷ l)
+  each-more a l x y zero d h = x
+  each-more a l x y (suc i) d h = y i d (le-of-suc-le-suc h)
+
+  -- rows in turn, refused or not: what holds of every row that the parser answers
+  pub inTurn-each : (p : ℕ → Answer (Step A)) → ((at : ℕ) → Answers (λ s. P (s .it)) (p at)) → (n at : ℕ) → Each P (inTurn p n at .rows)
+  inTurn-each p x zero at = each-none
+  inTurn-each p x (suc n) at = go (p at) (x at) (inTurn-each p x n)
+    where
+      go : (a : Answer (Step A)) → Answers (λ s. P (s .it)) a → ((at : ℕ) → Each P (inTurn p n at .rows)) → Each P (more a (inTurn p n) .rows)
+      go (ok s) y ih = each-more (s .it) (inTurn p n (s .next) .rows) y (ih (s .next))
+      go (refused e) y ih = each-none
+
+-- n rows in turn that nothing refuses are n
+pub inTurn-all : {R : Type 0} (p : ℕ → Answer (Step R)) (n at to : ℕ) → inTurn p n at .end ≡ ok to → length (inTurn p n at .rows) ≡ n
+inTurn-all p zero at to e = refl
+inTurn-all p (suc n) at to e = go (p at) e (inTurn-all p n)
+  where
+    go : (a : Answer (Step _)) → more a (inTurn p n) .end ≡ ok to
+        → ((at to : ℕ) → inTurn p n at .end ≡ ok to → length (inTurn p n at .rows) ≡ n) → length (more a (inTurn p n) .rows) ≡ suc n
+    go (ok s) e ih = ap suc (ih (s .next) to e)
+    go (refused k) e ih = absurd (ok-refused e)
+
+-- what holds of a part, or of the rows of a reading, that ended well
+abbrev pub Good : {A : Type 0} → (A → Type 0) → Part A → Type 0
+Good P x = (to : ℕ) → x .end ≡ ok to → P (x .it)
+
+abbrev pub GoodRows : {R : Type 0} → (List R → Type 0) → Read R → Type 0
+GoodRows P x = (to : ℕ) → x .end ≡ ok to → P (x .rows)
+
+-- what each section that ends well keeps, a file that ends well keeps
+module _ (f : List ℕ) (P : Content → Type 0) (keeps : (c : Content) (at : ℕ) → P c → Good P (sectionAt f c at)) where
+  sections-keep : (n : ℕ) (c : Content) (at : ℕ) → P c → Good P (sections f n c at)
+  unfolding sections
+  sections-keep zero c at x to e = x
+  sections-keep (suc n) c at x to e = go (has f at 4) (sectionAt f c at .end) refl e (sections-keep n)
+    where
+      go : (b : Bool) (a : Answer ℕ) → sectionAt f c at .end ≡ a
+          → cond b (onAnswer a (λ size. sections f n (sectionAt f c at .it) (at + size)) (λ k. part (sectionAt f c at .it) (refused k))) (part c (ok at)) .end ≡ ok to
+          → ((c : Content) (at : ℕ) → P c → Good P (sections f n c at))
+          → P (cond b (onAnswer a (λ size. sections f n (sectionAt f c at .it) (at + size)) (λ k. part (sectionAt f c at .it) (refused k))) (part c (ok at)) .it)
+      go false a q e ih = x
+      go true (ok size) q e ih = ih (sectionAt f c at .it) (at + size) (keeps c at x size q) to e
+      go true (refused k) q e ih = absurd (ok-refused e)
+
+  pub reading-keeps : P nothing → Good P (fileReading f)
+  unfolding fileReading
+  reading-keeps x =
+      either (Good P) (ltb 65536 (length f)) _ _ (λ _ to e. x) (λ _.
+      either (Good P) (ltb (length f) 20) _ _ (λ _ to e. x) (λ _.
+      either (Good P) (majorIs04 f) _ _
+      (λ _. either (Good P) (ltb (length f) 32) _ _ (λ _ to e. x) (λ _. sections-keep (length f) nothing 20 x))
+      (λ _ to e. x)))
+
+-- a file that nothing refuses is small
+pub reading-small : (f : List ℕ) → Good (λ _. length f ≤ 65536) (fileReading f)
+unfolding fileReading
+reading-small f = either (Good (λ _. length f ≤ 65536)) (ltb 65536 (length f)) _ _ (λ _ to e. absurd (ok-refused e)) (λ a to e. ltb-false _ _ a)

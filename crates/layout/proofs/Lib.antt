@@ -1,0 +1,5 @@
+pub mod Own
+pub mod Ends
+pub mod Inside
+pub mod Back
+pub mod Pattern

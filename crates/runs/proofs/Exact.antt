@@ -1,0 +1,59 @@
+-- What an examination that answers 0 gives of each record.
+-- Assumes nothing.
+use Prim.Native.Nat.{ℕ, zero, suc, _<_}
+use native.Mathlib.Nat.{le-of-suc-le-suc, zero-add}
+use native.Mathlib.Omega.{arith}
+use mathlib.Core.Path.{_≡_}
+use mathlib.Core.List.{List, [], _∷_}
+use lib.Dec.{T, ltb, ltb→lt}
+use lib.ListN.{length, getD}
+use Rattle.format.specs.Line.{rising}
+use Rattle.format.specs.Tree.{whole}
+use Rattle.format.specs.Pattern.{Record, Pattern, ilen, clen, recAt, blank, begins, rlens}
+use Rattle.format.specs.Exam.{readable, operandsBelow, follows, refuse, firstAt, at16, at1718, exam16, exam1718, exam19, exam20, examineRecord, examineAll, examinePattern}
+use Rattle.runs.proofs.Tests.{first-zero, refuse-zero, firstAt-zero, firstOf-zero}
+
+pub record Good (r : Record) : Type 0 where
+  pub filled : 0 < ilen r
+  pub reads : (o : ℕ) → T (begins (r .code) o) → T (readable (r .code) o)
+  pub fit : (o : ℕ) → T (begins (r .code) o) → T (operandsBelow r o)
+  pub go : (o : ℕ) → T (begins (r .code) o) → T (follows (r .code) o)
+  pub caught : (h : ℕ) → h < clen r → T (begins (r .code) (getD (r .handlers) h 0))
+  pub rise : T (rising (r .lines))
+
+-- at an instruction a test that answers 0 from the record's start on answers 0
+each : (f : ℕ → ℕ) (c : List ℕ) → firstAt f c 0 0 ≡ 0 → (o : ℕ) → T (begins c o) → f o ≡ 0
+each f c e o t = rw zero-add at (firstAt-zero f c 0 0 e o t)
+
+pub good : (r : Record) → examineRecord r ≡ 0 → Good r
+unfolding examineRecord exam16 exam1718 exam19 exam20
+good r e =
+    let a = first-zero (exam16 (r .code)) _ e in
+    let b = first-zero (exam1718 r) _ (a .1) in
+    let c = first-zero (exam19 r) _ (b .1) in
+    let d = first-zero (refuse 16 (ltb 0 (ilen r))) _ (a .0) in
+    let i = each (at1718 r) (r .code) (b .0) in
+    record {
+      filled = ltb→lt 0 (ilen r) (refuse-zero 15 (ltb 0 (ilen r)) (d .0));
+      reads = λ o t. refuse-zero 15 (readable (r .code) o) (each (at16 (r .code)) (r .code) (d .1) o t);
+      fit = λ o t. refuse-zero 16 (operandsBelow r o) (first-zero (refuse 17 (operandsBelow r o)) _ (i o t) .0);
+      go = λ o t. refuse-zero 17 (follows (r .code) o) (first-zero (refuse 17 (operandsBelow r o)) (refuse 18 (follows (r .code) o)) (i o t) .1);
+      caught = λ h g. refuse-zero 18 (begins (r .code) (getD (r .handlers) h 0)) (firstOf-zero (λ (t : ℕ). refuse 19 (begins (r .code) t)) (r .handlers) (c .0) h g);
+      rise = refuse-zero 19 (rising (r .lines)) (c .1);
+    }
+
+good-all : (rs : List Record) → examineAll rs ≡ 0 → (i : ℕ) → i < length rs → Good (getD rs i blank)
+unfolding examineAll
+good-all [] e i h = absurd (omega arith)
+good-all (r ∷ rs) e zero h = good r (first-zero (examineRecord r) _ e .0)
+good-all (r ∷ rs) e (suc i) h = good-all rs (first-zero (examineRecord r) _ e .1) i (le-of-suc-le-suc h)
+
+pub record GoodFile (F : Pattern) : Type 0 where
+  pub tree : T (whole (rlens F))
+  pub each-rec : (i : ℕ) → i < length F → Good (recAt F i)
+
+pub good-file : (F : Pattern) → examinePattern F ≡ 0 → GoodFile F
+unfolding examinePattern
+good-file F e =
+    let a = first-zero (refuse 15 (whole (rlens F))) _ e in
+    record { tree = refuse-zero 14 (whole (rlens F)) (a .0); each-rec = good-all F (a .1) }

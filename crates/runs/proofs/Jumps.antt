@@ -1,0 +1,125 @@
+-- What the code of a jump needs: where its operand stands, and that in an examined record the sum does not fall below 0.
+-- Assumes nothing.
+use Prim.Native.Nat.{ℕ, suc, _+_, _-_, _*_, _≤_, _<_}
+use native.Mathlib.Omega.{arith}
+use mathlib.Core.Path.{_≡_, sym, ap, _∙_}
+use mathlib.Core.Bool.{Bool, true, false, _||_, not}
+use mathlib.Core.List.{List}
+use lib.Dec.{T, leb→le}
+use lib.ListN.{length}
+use borrow.Author.Tests.{lt-ltb, le-ltb}
+use Rattle.format.specs.Bytes.{byte, u16At}
+use Rattle.format.specs.Insn.{Kind, Z, B, BB, S, BBB, BS, W, BSS, Row, fields, width, kind, flow, row, table, opcode, operands, rowAt, operandsAt, rest, next, lastOf, jump, target}
+use Rattle.format.specs.Pattern.{lands}
+use Rattle.format.specs.Exam.{readable, hasTarget}
+use Rattle.runs.specs.Stack.{Jumps}
+use Rattle.format.proofs.Table.{both}
+use Rattle.runs.proofs.Begins.{reach-inside}
+use Rattle.format.proofs.Table.{by-test}
+
+-- a jump has kind S or BS: one test of the table
+jumpKind : Kind → Bool
+jumpKind Z = false
+jumpKind B = false
+jumpKind BB = false
+jumpKind S = true
+jumpKind BBB = false
+jumpKind BS = true
+jumpKind W = false
+jumpKind BSS = false
+
+jump-test : Row → Bool
+jump-test r = not (hasTarget (flow r)) || jumpKind (kind r)
+
+jump-all : (b : ℕ) → T (jump-test (row b))
+unfolding jump-test jumpKind table row
+jump-all b = by-test jump-test tt b
+
+if-so : (a b : Bool) → T (not a || b) → T a → T b
+if-so true b t u = t
+if-so false b t u = absurd u
+
+last-of : (k : Kind) (c : List ℕ) (o : ℕ) → T (jumpKind k) → lastOf (operands (fields k) c (o + 1)) ≡ u16At c (o + suc (width k) - 2)
+unfolding jumpKind operands lastOf
+last-of Z c o t = absurd t
+last-of B c o t = absurd t
+last-of BB c o t = absurd t
+last-of S c o t = ap (u16At c) (omega arith)
+last-of BBB c o t = absurd t
+last-of BS c o t = ap (u16At c) (omega arith)
+last-of W c o t = absurd t
+last-of BSS c o t = absurd t
+
+jump-width : (k : Kind) → T (jumpKind k) → 2 ≤ width k
+unfolding jumpKind
+jump-width Z t = absurd t
+jump-width B t = absurd t
+jump-width BB t = absurd t
+jump-width S t = omega arith
+jump-width BBB t = absurd t
+jump-width BS t = omega arith
+jump-width W t = absurd t
+jump-width BSS t = absurd t
+
+module _ (c : List ℕ) (o : ℕ) (j : T (hasTarget (flow (rowAt c o)))) where
+  is-jump : T (jumpKind (kind (rowAt c o)))
+  unfolding jump-test
+  is-jump = if-so (hasTarget (flow (rowAt c o))) (jumpKind (kind (rowAt c o))) (jump-all (opcode c o)) j
+
+  pub jump-wide : o + 3 ≤ next c o
+  unfolding opcode rest
+  jump-wide = omega (arith, jump-width (kind (rowAt c o)) is-jump)
+
+  pub operand : lastOf (operandsAt c o) ≡ u16At c (next c o - 2)
+  unfolding opcode rest
+  operand = last-of (kind (rowAt c o)) c o is-jump
+
+  pub target-low : (s : ℕ) → s ≡ u16At c (next c o - 2) → s < 32768 → next c o + s ≡ target c o
+  unfolding target jump
+  target-low s e h =
+      let q : lastOf (operandsAt c o) ≡ s = operand ∙ sym e in
+      rw (q, lt-ltb s 32768 h) (omega arith)
+
+  pub target-high : (s : ℕ) → s ≡ u16At c (next c o - 2) → 32768 ≤ s → next c o + s - 65536 ≡ target c o
+  unfolding target jump
+  target-high s e h =
+      let q : lastOf (operandsAt c o) ≡ s = operand ∙ sym e in
+      rw (q, le-ltb s 32768 h)
+
+  pub not-before : (s : ℕ) → s ≡ u16At c (next c o - 2) → 32768 ≤ s → T (lands c o) → 65536 ≤ next c o + s
+  unfolding lands jump
+  not-before s e h l =
+      let q : lastOf (operandsAt c o) ≡ s = operand ∙ sym e in
+      rw (q, le-ltb s 32768 h) at (leb→le 65536 (jump c o) (search both))
+
+pub readable-whole : (c : List ℕ) (o : ℕ) → T (readable c o) → next c o ≤ length c
+unfolding readable
+readable-whole c o t = leb→le (next c o) (length c) (search both)
+
+-- the numbers of a jump in a record that passes
+pub record Room (c : List ℕ) (o : ℕ) : Type 0 where
+  pub inside : o < length c
+  pub wide : o + 3 ≤ next c o
+  pub whole : next c o ≤ length c
+
+pub room : {c : List ℕ} {o : ℕ} → Jumps c o → Room c o
+room {c} {o} j = record { inside = reach-inside c 0 o (j .starts); wide = jump-wide c o (j .jump); whole = readable-whole c o (j .reads) }
+
+-- The code's own numbers: w the width that it looked up, x and y the bytes that it read.
+module _ {c : List ℕ} {o : ℕ} (j : Jumps c o) (w x y : ℕ) (ew : w ≡ width (kind (row (byte c o))))
+    (ex : x ≡ byte c (o + (1 + w) - 2)) (ey : y ≡ byte c (o + (1 + w) - 2 + 1)) where
+  code-next : o + (1 + w) ≡ next c o
+  unfolding rest
+  code-next = omega arith
+
+  code-operand : x * 256 + y ≡ u16At c (next c o - 2)
+  code-operand = let e = code-next in rw (← e) (omega arith)
+
+  pub code-low : x * 256 + y < 32768 → o + (1 + w) + (x * 256 + y) ≡ target c o
+  code-low h = omega (arith, code-next, target-low c o (j .jump) (x * 256 + y) code-operand h)
+
+  pub code-high : 32768 ≤ x * 256 + y → o + (1 + w) + (x * 256 + y) - 65536 ≡ target c o
+  code-high h = omega (arith, code-next, target-high c o (j .jump) (x * 256 + y) code-operand h)
+
+  pub code-room : 32768 ≤ x * 256 + y → 65536 ≤ o + (1 + w) + (x * 256 + y)
+  code-room h = omega (arith, code-next, not-before c o (j .jump) (x * 256 + y) code-operand h (j .goes))

@@ -1,0 +1,14 @@
+pub mod Tree
+pub mod Tests
+pub mod Line
+pub mod Table
+pub mod Roles
+pub mod Begins
+pub mod Exact
+pub mod Safe
+pub mod Refusal
+pub mod Loops
+pub mod Jumps
+pub mod Choices
+pub mod Frames
+pub mod Frame

@@ -1,0 +1,218 @@
+-- The examination is exact: it answers 0 exactly when none of 15 to 20 is met, and a number that it answers is that of a condition that is met.
+-- Assumes nothing.
+use Prim.Native.Nat.{ℕ, zero, suc, _+_, _<_, suc-le-suc}
+use native.Mathlib.Nat.{le-of-suc-le-suc, zero-add}
+use native.Mathlib.Omega.{arith}
+use mathlib.Core.Path.{_≡_, refl, sym, subst}
+use mathlib.Core.Logic.{_⊎_, inl, inr, _↔_}
+use mathlib.Core.Bool.{Bool, true, false, _&&_, not}
+use mathlib.Core.List.{List, [], _∷_}
+use lib.Dec.{T, T-not, ltb, leb, nltb→le, nleb→lt}
+use lib.ListN.{length, getD}
+use Rattle.format.specs.Rows.{LineRow}
+use Rattle.format.specs.Insn.{Flow, on, ends, jumps, may, plain, roles, flow, rowAt, operandsAt, next}
+use Rattle.format.specs.Line.{entry, rising}
+use Rattle.format.specs.Tree.{Whole, whole}
+use Rattle.format.specs.Pattern.{Record, Pattern, ilen, recAt, blank, begins, lands, rlens}
+use Rattle.format.specs.Exam.{Below, leads, hasNext, hasTarget, readable, operandsBelow, follows, Bad16, Bad17, Bad18, Bad19, Bad20, Some, Meets, meets15, meets16, meets17, meets18, meets19, meets20, Passes, refuse, first, firstAt, at16, at1718, exam16, exam1718, exam19, exam20, examineRecord, examineAll, examinePattern}
+use Rattle.runs.proofs.Roles.{all-below, args-fit, Above, some-above}
+use Rattle.format.proofs.Table.{both}
+use Rattle.runs.proofs.Tests.{first-zero, zero-first, refuse-zero, refuse-pass, first-hit, refuse-hit, Hit, firstAt-hit, firstOf-hit}
+use Rattle.runs.proofs.Tree.{whole-iff}
+use Rattle.runs.proofs.Line.{mono}
+use Rattle.runs.proofs.Exact.{GoodFile, good-file}
+
+-- The tests of 17 and 18 against their words.
+
+below-of : (r : Record) (o : ℕ) → T (operandsBelow r o) → (i : ℕ) → i < length (roles (rowAt (r .code) o))
+    → Below r (getD (roles (rowAt (r .code) o)) i plain) (getD (operandsAt (r .code) o) i 0)
+unfolding operandsBelow
+below-of r o t = all-below r (roles (rowAt (r .code) o)) (operandsAt (r .code) o) t (args-fit (r .code) o)
+
+above-of : (r : Record) (o : ℕ) → T (not (operandsBelow r o)) → Above r (roles (rowAt (r .code) o)) (operandsAt (r .code) o)
+unfolding operandsBelow
+above-of r o t = some-above r (roles (rowAt (r .code) o)) (operandsAt (r .code) o) t
+
+leads-lost : (w : Flow) (n t : Bool) → T (not (leads w n t)) → (T (hasNext w) × T (not n)) ⊎ (T (hasTarget w) × T (not t))
+leads-lost on n t h = inl (tt, h)
+leads-lost ends n t h = absurd h
+leads-lost jumps n t h = inr (tt, h)
+leads-lost may true t h = inr (tt, h)
+leads-lost may false t h = inl (tt, tt)
+
+leads-none : (w : Flow) (n t : Bool) → T (leads w n t) → (T (hasNext w) × T (not n)) ⊎ (T (hasTarget w) × T (not t)) → ⊥
+leads-none on n t h (inl p) = T-not n (p .1) h
+leads-none on n t h (inr p) = p .0
+leads-none ends n t h (inl p) = p .0
+leads-none ends n t h (inr p) = p .0
+leads-none jumps n t h (inl p) = p .0
+leads-none jumps n t h (inr p) = T-not t (p .1) h
+leads-none may n t h (inl p) = T-not n (p .1) (search both)
+leads-none may n t h (inr p) = T-not t (p .1) (search both)
+
+module _ (c : List ℕ) (o : ℕ) where
+  not-lost : T (follows c o) → (T (hasNext (flow (rowAt c o))) × T (not (begins c (next c o)))) ⊎ (T (hasTarget (flow (rowAt c o))) × T (not (lands c o))) → ⊥
+  unfolding follows
+  not-lost t l = leads-none (flow (rowAt c o)) (begins c (next c o)) (lands c o) t l
+
+  lost-of : T (not (follows c o)) → (T (hasNext (flow (rowAt c o))) × T (not (begins c (next c o)))) ⊎ (T (hasTarget (flow (rowAt c o))) × T (not (lands c o)))
+  unfolding follows
+  lost-of t = leads-lost (flow (rowAt c o)) (begins c (next c o)) (lands c o) t
+
+-- From 0: none is met.
+
+no-meet : (F : Pattern) → GoodFile F → (n : ℕ) → Meets F n → ⊥
+no-meet F G n (meets15 w) = w (whole-iff (rlens F) .0 (G .tree))
+no-meet F G n (meets16 s) = go (s .holds)
+  where
+    go : Bad16 (recAt F (s .rec)) → ⊥
+    go (inl e) = omega (arith, G .each-rec (s .rec) (s .inside) .filled)
+    go (inr b) = T-not (readable (recAt F (s .rec) .code) (b .at)) (b .fails) (G .each-rec (s .rec) (s .inside) .reads (b .at) (b .starts))
+no-meet F G n (meets17 s) =
+    let b = s .holds in
+    b .above (below-of (recAt F (s .rec)) (b .at) (G .each-rec (s .rec) (s .inside) .fit (b .at) (b .starts)) (b .i) (b .given))
+no-meet F G n (meets18 s) = not-lost (recAt F (s .rec) .code) (s .holds .at) (G .each-rec (s .rec) (s .inside) .go (s .holds .at) (s .holds .starts)) (s .holds .lost)
+no-meet F G n (meets19 s) = T-not (begins (recAt F (s .rec) .code) (getD (recAt F (s .rec) .handlers) (s .holds .h) 0)) (s .holds .none-begins) (G .each-rec (s .rec) (s .inside) .caught (s .holds .h) (s .holds .given))
+no-meet F G n (meets20 s) =
+    let b = s .holds in
+    omega (arith, b .falls, mono (recAt F (s .rec) .lines) (G .each-rec (s .rec) (s .inside) .rise) (b .i) (suc (b .i)) (omega arith) (b .given))
+
+pub pass-sound : (F : Pattern) → examinePattern F ≡ 0 → Passes F
+pass-sound F e n = no-meet F (good-file F e) n
+
+-- From a number: that condition is met.
+
+data Bad (r : Record) : ℕ → Type 0 where
+  bad16 : Bad16 r → Bad r 16
+  bad17 : Bad17 r → Bad r 17
+  bad18 : Bad18 r → Bad r 18
+  bad19 : Bad19 r → Bad r 19
+  bad20 : Bad20 r → Bad r 20
+
+-- a map that does not rise falls somewhere
+falls-at : (m : List LineRow) → T (not (rising m)) → (i : ℕ) × (suc i < length m) × (entry m (suc i) .pos < entry m i .pos)
+unfolding rising
+falls-at [] t = absurd t
+falls-at (e ∷ []) t = absurd t
+falls-at (e ∷ f ∷ m) t = go (leb (e .pos) (f .pos)) refl t (falls-at (f ∷ m))
+  where
+    go : (b : Bool) → leb (e .pos) (f .pos) ≡ b → T (not (b && rising (f ∷ m)))
+        → (T (not (rising (f ∷ m))) → (i : ℕ) × (suc i < length (f ∷ m)) × (entry (f ∷ m) (suc i) .pos < entry (f ∷ m) i .pos))
+        → (i : ℕ) × (suc i < length (e ∷ f ∷ m)) × (entry (e ∷ f ∷ m) (suc i) .pos < entry (e ∷ f ∷ m) i .pos)
+    go true q t ih = let w = ih t in (suc (w .0), suc-le-suc (w .1), w .2)
+    go false q t ih = (0, omega arith, nleb→lt _ _ (subst (λ (b : Bool). T (not b)) (sym q) tt))
+
+module _ (r : Record) (n : ℕ) where
+  same : {k : ℕ} → k ≡ suc n → Bad r k → Bad r (suc n)
+  same e b = subst (λ (k : ℕ). Bad r k) e b
+
+  hit16 : exam16 (r .code) ≡ suc n → Bad r (suc n)
+  unfolding exam16
+  hit16 e = go (first-hit (refuse 16 (ltb 0 (ilen r))) _ n e)
+    where
+      go : (refuse 16 (ltb 0 (ilen r)) ≡ suc n) ⊎ (firstAt (at16 (r .code)) (r .code) 0 0 ≡ suc n) → Bad r (suc n)
+      go (inl e) =
+          let h = refuse-hit 16 n (ltb 0 (ilen r)) e in
+          same (h .0) (bad16 (inl (omega (arith, nltb→le 0 (ilen r) (h .1)))))
+      go (inr e) =
+          let i = firstAt-hit (at16 (r .code)) (r .code) 0 0 n e in
+          let h = refuse-hit 16 n (readable (r .code) (0 + i .at)) (i .gives) in
+          same (h .0) (bad16 (inr (record { at = i .at; starts = i .starts; fails = rw zero-add at (h .1) })))
+
+  hit1718 : exam1718 r ≡ suc n → Bad r (suc n)
+  unfolding exam1718
+  hit1718 e = at (firstAt-hit (at1718 r) (r .code) 0 0 n e)
+    where
+      go : (o : ℕ) → T (begins (r .code) o) → (refuse 17 (operandsBelow r o) ≡ suc n) ⊎ (refuse 18 (follows (r .code) o) ≡ suc n) → Bad r (suc n)
+      go o t (inl e) = let h = refuse-hit 17 n (operandsBelow r o) e in let w = above-of r o (h .1) in same (h .0) (bad17 (record { at = o; starts = t; i = w .i; given = w .given; above = w .above }))
+      go o t (inr e) = let h = refuse-hit 18 n (follows (r .code) o) e in same (h .0) (bad18 (record { at = o; starts = t; lost = lost-of (r .code) o (h .1) }))
+
+      at : Hit (at1718 r) (r .code) 0 0 (suc n) → Bad r (suc n)
+      at i = go (i .at) (i .starts) (first-hit (refuse 17 (operandsBelow r (i .at))) (refuse 18 (follows (r .code) (i .at))) n (rw zero-add at (i .gives)))
+
+  hit19 : exam19 r ≡ suc n → Bad r (suc n)
+  unfolding exam19
+  hit19 e =
+      let i = firstOf-hit (λ (t : ℕ). refuse 19 (begins (r .code) t)) (r .handlers) n e in
+      let h = refuse-hit 19 n (begins (r .code) (getD (r .handlers) (i .at) 0)) (i .gives) in
+      same (h .0) (bad19 (record { h = i .at; given = i .inside; none-begins = h .1 }))
+
+  hit20 : exam20 r ≡ suc n → Bad r (suc n)
+  unfolding exam20
+  hit20 e =
+      let h = refuse-hit 20 n (rising (r .lines)) e in
+      let w = falls-at (r .lines) (h .1) in
+      same (h .0) (bad20 (record { i = w .0; given = w .1; falls = w .2 }))
+
+  hit-rec : examineRecord r ≡ suc n → Bad r (suc n)
+  unfolding examineRecord
+  hit-rec e = a (first-hit (exam16 (r .code)) (first (exam1718 r) (first (exam19 r) (exam20 r))) n e)
+    where
+      c : (exam19 r ≡ suc n) ⊎ (exam20 r ≡ suc n) → Bad r (suc n)
+      c (inl e) = hit19 e
+      c (inr e) = hit20 e
+
+      b : (exam1718 r ≡ suc n) ⊎ (first (exam19 r) (exam20 r) ≡ suc n) → Bad r (suc n)
+      b (inl e) = hit1718 e
+      b (inr e) = c (first-hit (exam19 r) (exam20 r) n e)
+
+      a : (exam16 (r .code) ≡ suc n) ⊎ (first (exam1718 r) (first (exam19 r) (exam20 r)) ≡ suc n) → Bad r (suc n)
+      a (inl e) = hit16 e
+      a (inr e) = b (first-hit (exam1718 r) (first (exam19 r) (exam20 r)) n e)
+
+hit-all : (rs : List Record) (n : ℕ) → examineAll rs ≡ suc n → Some (λ (r : Record). Bad r (suc n)) rs
+unfolding examineAll
+hit-all [] n e = absurd (omega arith)
+hit-all (r ∷ rs) n e = go (first-hit (examineRecord r) (examineAll rs) n e) (hit-all rs n)
+  where
+    go : (examineRecord r ≡ suc n) ⊎ (examineAll rs ≡ suc n) → (examineAll rs ≡ suc n → Some (λ (r : Record). Bad r (suc n)) rs) → Some (λ (r : Record). Bad r (suc n)) (r ∷ rs)
+    go (inl e) ih = record { rec = 0; inside = omega arith; holds = hit-rec r n e }
+    go (inr e) ih = let w = ih e in record { rec = suc (w .rec); inside = suc-le-suc (w .inside); holds = w .holds }
+
+some-meets : (F : Pattern) (i n : ℕ) → i < length F → Bad (recAt F i) n → Meets F n
+some-meets F i n h (bad16 b) = meets16 (record { rec = i; inside = h; holds = b })
+some-meets F i n h (bad17 b) = meets17 (record { rec = i; inside = h; holds = b })
+some-meets F i n h (bad18 b) = meets18 (record { rec = i; inside = h; holds = b })
+some-meets F i n h (bad19 b) = meets19 (record { rec = i; inside = h; holds = b })
+some-meets F i n h (bad20 b) = meets20 (record { rec = i; inside = h; holds = b })
+
+pub refusal-met : (F : Pattern) (n : ℕ) → examinePattern F ≡ suc n → Meets F (suc n)
+unfolding examinePattern
+refusal-met F n e = go (first-hit (refuse 15 (whole (rlens F))) (examineAll F) n e)
+  where
+    go : (refuse 15 (whole (rlens F)) ≡ suc n) ⊎ (examineAll F ≡ suc n) → Meets F (suc n)
+    go (inl e) =
+        let h = refuse-hit 15 n (whole (rlens F)) e in
+        subst (λ (k : ℕ). Meets F k) (h .0) (meets15 (λ w. T-not (whole (rlens F)) (h .1) (whole-iff (rlens F) .1 w)))
+    go (inr e) = let w = hit-all F n e in some-meets F (w .rec) (suc n) (w .inside) (w .holds)
+
+pub passes-iff : (F : Pattern) → (examinePattern F ≡ 0) ↔ Passes F
+passes-iff F = (pass-sound F, λ p. go p (examinePattern F) refl)
+  where
+    go : Passes F → (k : ℕ) → examinePattern F ≡ k → examinePattern F ≡ 0
+    go p zero e = e
+    go p (suc k) e = absurd (p (suc k) (refusal-met F k e))
+
+all-zero : (rs : List Record) → examineAll rs ≡ 0 → (i : ℕ) → i < length rs → examineRecord (getD rs i blank) ≡ 0
+unfolding examineAll
+all-zero [] e i h = omega arith
+all-zero (r ∷ rs) e zero h = first-zero (examineRecord r) (examineAll rs) e .0
+all-zero (r ∷ rs) e (suc i) h = all-zero rs (first-zero (examineRecord r) (examineAll rs) e .1) i (le-of-suc-le-suc h)
+
+zero-all : (rs : List Record) → ((i : ℕ) → i < length rs → examineRecord (getD rs i blank) ≡ 0) → examineAll rs ≡ 0
+unfolding examineAll
+zero-all [] z = refl
+zero-all (r ∷ rs) z = zero-first (examineRecord r) (examineAll rs) (z 0 (omega arith)) (zero-all rs (λ i h. z (suc i) (suc-le-suc h)))
+
+-- The file passes exactly when its tree is whole and each record passes by itself.
+pub by-record : (F : Pattern) → (examinePattern F ≡ 0) ↔ (Whole (rlens F) × ((i : ℕ) → i < length F → examineRecord (recAt F i) ≡ 0))
+unfolding examinePattern
+by-record F = (there, back)
+  where
+    there : examinePattern F ≡ 0 → Whole (rlens F) × ((i : ℕ) → i < length F → examineRecord (recAt F i) ≡ 0)
+    there e =
+        let a = first-zero (refuse 15 (whole (rlens F))) (examineAll F) e in
+        (whole-iff (rlens F) .0 (refuse-zero 14 (whole (rlens F)) (a .0)), all-zero F (a .1))
+
+    back : Whole (rlens F) × ((i : ℕ) → i < length F → examineRecord (recAt F i) ≡ 0) → examinePattern F ≡ 0
+    back p = zero-first (refuse 15 (whole (rlens F))) (examineAll F) (refuse-pass 15 (whole (rlens F)) (whole-iff (rlens F) .1 (p .0))) (zero-all F (p .1))

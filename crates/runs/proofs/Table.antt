@@ -1,0 +1,91 @@
+-- Rules of the table of opcodes, each one computed test.
+-- Assumes nothing.
+use Prim.Native.Nat.{ℕ, suc, _+_, _≤_}
+use mathlib.Core.Path.{_≡_, refl, sym, ap, subst}
+use mathlib.Core.Bool.{Bool, true, false, _||_, not}
+use mathlib.Core.Option.{some}
+use mathlib.Core.List.{List, [], _∷_}
+use native.Mathlib.Omega.{arith}
+use lib.Dec.{T, eqb, eqb→eq}
+use lib.ListN.{length, List·getD-eq-default}
+use Rattle.format.specs.Insn.{Kind, Z, B, BB, S, BBB, BS, W, BSS, Role, reg, pool, sym as symbol, child, plain, Flow, on, ends, jumps, may, NOP, Row, op, fields, width, kind, roles, flow, table, row, operands}
+use Rattle.format.specs.Run.{childOperand}
+use Rattle.format.proofs.Table.{by-test}
+
+-- as many roles as the kind has operands
+arities : Row → Bool
+arities r = eqb (length (roles r)) (length (fields (kind r)))
+
+pub operands-length : (ws : List ℕ) (c : List ℕ) (i : ℕ) → length (operands ws c i) ≡ length ws
+unfolding operands
+operands-length [] c i = refl
+operands-length (w ∷ ws) c i = ap suc (operands-length ws c (i + w))
+
+pub roles-length : (b : ℕ) → length (roles (row b)) ≡ length (fields (kind (row b)))
+unfolding arities table row
+roles-length b = eqb→eq _ _ (by-test arities tt b)
+
+-- a child opcode goes on to the next offset
+isChild : Role → Bool
+isChild reg = false
+isChild pool = false
+isChild symbol = false
+isChild child = true
+isChild plain = false
+
+anyChild : List Role → Bool
+anyChild [] = false
+anyChild (x ∷ xs) = isChild x || anyChild xs
+
+isOn : Flow → Bool
+isOn on = true
+isOn ends = false
+isOn jumps = false
+isOn may = false
+
+child-on-test : Row → Bool
+child-on-test r = not (anyChild (roles r)) || isOn (flow r)
+
+no-child : (xs : List Role) (vs : List ℕ) (k : ℕ) → T (not (anyChild xs)) → childOperand xs vs ≡ some k → ⊥
+unfolding anyChild isChild childOperand
+no-child [] vs k t e = let z : _≡_ {A = ℕ} 0 1 = cc in omega arith
+no-child (x ∷ xs) [] k t e = let z : _≡_ {A = ℕ} 0 1 = cc in omega arith
+no-child (reg ∷ xs) (v ∷ vs) k t e = no-child xs vs k t e
+no-child (pool ∷ xs) (v ∷ vs) k t e = no-child xs vs k t e
+no-child (symbol ∷ xs) (v ∷ vs) k t e = no-child xs vs k t e
+no-child (child ∷ xs) (v ∷ vs) k t e = t
+no-child (plain ∷ xs) (v ∷ vs) k t e = no-child xs vs k t e
+
+on-only : (f : Flow) → T (isOn f) → f ≡ on
+unfolding isOn
+on-only on t = refl
+on-only ends t = absurd t
+on-only jumps t = absurd t
+on-only may t = absurd t
+
+child-on-all : (b : ℕ) → T (child-on-test (row b))
+unfolding anyChild isChild isOn child-on-test table row
+child-on-all b = by-test child-on-test tt b
+
+pub child-on : (b : ℕ) (vs : List ℕ) (k : ℕ) → childOperand (roles (row b)) vs ≡ some k → flow (row b) ≡ on
+unfolding child-on-test
+child-on b vs k e = go (anyChild (roles (row b))) refl (child-on-all b)
+  where
+    go : (a : Bool) → anyChild (roles (row b)) ≡ a → T (not a || isOn (flow (row b))) → flow (row b) ≡ on
+    go true q t = on-only _ t
+    go false q t = absurd (no-child (roles (row b)) vs k (subst (λ (a : Bool). T (not a)) (sym q) tt) e)
+
+pub width-small : (k : Kind) → width k ≤ 5
+width-small Z = omega arith
+width-small B = omega arith
+width-small BB = omega arith
+width-small S = omega arith
+width-small BBB = omega arith
+width-small BS = omega arith
+width-small W = omega arith
+width-small BSS = omega arith
+
+-- a byte above 118 has nothing behind it
+pub width-above : (b : ℕ) → 119 ≤ b → width (kind (row b)) ≡ 0
+unfolding row table
+width-above b h = ap (λ (r : Row). width (kind r)) (List·getD-eq-default table (op NOP Z [] on) {n = b} h)

@@ -1,0 +1,1 @@
+// Theorems about trees, lines, examination and runs stand in proofs/. There is no code.
