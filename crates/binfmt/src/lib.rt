@@ -1,22 +1,9 @@
-// Fields of two and four bytes, and the headers of the file, its sections and its records.
+// Fields of two and four bytes.
 ghost use mathlib.Core.Path.{_≡_};
 ghost use Prim.Native.Nat.{_-_, _<_};
 ghost use lib.ListN.{length};
 ghost use Rattle.format.specs.Bytes.{u16At, u32At, reads};
 ghost use Rattle.binfmt.specs.Answers.{field16Of, field32Of};
-
-mod headers;
-
-pub use headers::IrepCatchHandler;
-pub use headers::IrepCatchHandlerRead;
-pub use headers::IrepRecord;
-pub use headers::IrepRecordRead;
-pub use headers::RiteBinaryHeader;
-pub use headers::RiteBinaryHeaderRead;
-pub use headers::SectionIrepHeader;
-pub use headers::SectionIrepHeaderRead;
-pub use headers::SectionMiscHeader;
-pub use headers::SectionMiscHeaderRead;
 
 // A field of two bytes, or the refusal's number.
 pub enum Field16 {

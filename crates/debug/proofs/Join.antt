@@ -26,7 +26,7 @@ use Rattle.rows.specs.Rows.{stringOf}
 use Rattle.rows.specs.Walk.{Run, go, stop, bind, walk}
 use Rattle.rows.proofs.Join.{Ran, RowsRan, ran-bad, put-there, put-full, length-table, times-ran, string-agrees}
 use Rattle.debug.specs.declared.Debug.the-variants as debug
-use Rattle.debug.specs.Lines.{onRun, firstBefore, pushOf, lineOf, linesOf}
+use Rattle.linemap.specs.Lines.{onRun, firstBefore, pushOf, lineOf, linesOf}
 use Rattle.debug.specs.Records.{Tabs, tabs, usedRows, Spot, spot, Filed, filed, Held, held, State, state, bodyOf, fileOf, filesOf, putRanges, stepOf, kidsOf, usedUp}
 use Rattle.debug.specs.Section.{Tables, tables, Filled, filled, Walked, walkedOf, contentOf, debugOf}
 

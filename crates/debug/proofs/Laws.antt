@@ -1,102 +1,25 @@
 -- Laws of the transformers, which the readers' proofs cite.
 -- Assumes nothing.
-use Prim.Native.Nat.{ℕ, zero, suc, _+_, _-_, _*_, _%_, _<_, _≤_}
+use Prim.Native.Nat.{ℕ, zero, suc, _+_, _-_, _*_, _<_, _≤_}
 use native.Mathlib.Omega.{arith}
 use mathlib.Core.Path.{_≡_, refl, sym, ap}
 use mathlib.Core.Bool.{Bool, true, false, _||_, cond}
 use mathlib.Core.List.{List}
 use mathlib.Core.Option.{Option, none, some}
-use lib.Dec.{leb, ltb, eqb}
+use lib.Dec.{leb, eqb}
 use lib.ListN.{length}
-use borrow.Author.Tests.{lt-ltb, le-ltb, ltb-true, ltb-false, leb-true, leb-false}
-use Rattle.format.specs.Bytes.{ok, refused, has, reads, u16At, u32At, fourAt}
-use Rattle.format.specs.Headers.{sectionHeader}
-use Rattle.format.specs.Rows.{LineRow}
-use Rattle.format.specs.Packed.{wrap, packedEntry}
-use Rattle.format.specs.Debug.{goesOn}
-use Rattle.binfmt.specs.Headers.{sectionMiscHeaderOf}
-use Rattle.line.specs.declared.Line.{Line}
+use borrow.Author.Tests.{leb-true, leb-false}
+use Rattle.format.specs.Bytes.{has, u16At, u32At}
 use Rattle.line.specs.declared.Pos.{Pos}
-use Rattle.rows.specs.declared.Rows.the-variants as rows
-use Rattle.rows.specs.Table.{out}
 use Rattle.rows.specs.Walk.{Run, go, stop}
 use Rattle.rows.specs.Walk as generic
 use Rattle.rows.proofs.Walk.{same-go, stop-go, spent-walk, walk-past, walk-one, walk-child, walk-done, walk-rec}
-use Rattle.debug.specs.declared.Before.{Before}
-use Rattle.debug.specs.declared.OneLine.{OneLine}
-use Rattle.debug.specs.declared.OneLine.the-variants as one
 use Rattle.debug.specs.declared.Used.{Used}
 use Rattle.debug.specs.declared.OneFile.{OneFile}
 use Rattle.debug.specs.declared.OneFile.the-variants as file
-use Rattle.debug.specs.Answers.{beforeOf}
-use Rattle.debug.specs.Lines.{onRun, lineRun, lineOf, linesOf}
+use Rattle.linemap.specs.Lines.{onRun}
+use Rattle.linemap.proofs.Laws.{nothing}
 use Rattle.debug.specs.Records.{Tabs, tabs, Spot, spot, Held, held, State, state, fileRun, fileOf, filesOf, putRanges, stepOf, kidsOf, usedUp, readsNothing, walkOf}
-
--- a place is below so many bytes on
-pub reached : (from count at : ℕ) → 0 < count → ltb (at - from) count ≡ ltb at (from + count)
-reached from count at p = by-test (ltb at (from + count)) refl
-  where
-    by-test : (q : Bool) → ltb at (from + count) ≡ q → ltb (at - from) count ≡ q
-    by-test true e = let h = ltb-true at (from + count) e in lt-ltb (at - from) count (omega arith)
-    by-test false e = let h = ltb-false at (from + count) e in le-ltb (at - from) count (omega arith)
-
--- a sum wraps the same from a position and from what is left of it in 32 bits
-wrap-wrap : (p d : ℕ) → wrap (p % 4294967296 + d) ≡ wrap (p + d)
-wrap-wrap p d = omega arith
-
-pub packed-wrap : (s : List ℕ) (at p l : ℕ) → packedEntry s at (p % 4294967296) l ≡ packedEntry s at p l
-unfolding packedEntry
-packed-wrap s at p l = simp wrap-wrap
-
--- the section's header, refused and read
-pub size-no : (f : List ℕ) → (sectionMiscHeaderOf (sectionHeader f) .refusal ≡ 0 → ⊥) → refused (sectionMiscHeaderOf (sectionHeader f) .refusal) ≡ reads f 0 8 (u32At f 4)
-size-no f h = by-test (has f 0 8) h
-  where
-    by-test : (q : Bool) → (sectionMiscHeaderOf (cond q (ok (record { mark = fourAt f 0; size = fourAt f 4 })) (refused 7)) .refusal ≡ 0 → ⊥)
-        → refused (sectionMiscHeaderOf (cond q (ok (record { mark = fourAt f 0; size = fourAt f 4 })) (refused 7)) .refusal) ≡ cond q (ok (u32At f 4)) (refused 7)
-    by-test true n = absurd (n refl)
-    by-test false n = refl
-
-pub size-yes : (f : List ℕ) → sectionMiscHeaderOf (sectionHeader f) .refusal ≡ 0 → ok (u32At (sectionMiscHeaderOf (sectionHeader f) .header .size) 0) ≡ reads f 0 8 (u32At f 4)
-size-yes f h = by-test (has f 0 8) h
-  where
-    by-test : (q : Bool) → sectionMiscHeaderOf (cond q (ok (record { mark = fourAt f 0; size = fourAt f 4 })) (refused 7)) .refusal ≡ 0
-        → ok (u32At (sectionMiscHeaderOf (cond q (ok (record { mark = fourAt f 0; size = fourAt f 4 })) (refused 7)) .header .size) 0) ≡ cond q (ok (u32At f 4)) (refused 7)
-    by-test true e = refl
-    by-test false e = absurd (omega arith)
-
-nothing : {n : ℕ} → suc n ≤ 0 → ⊥
-nothing p = omega arith
-
--- the entries of a map: r is what the next entry answers
-module _ (s : List ℕ) (kind end : ℕ) where
-  -- a turn that goes on
-  pub lines-go : (n : ℕ) (e : LineRow) (last : Option ℕ) (at u : ℕ) (t : List ℕ) (r : OneLine) (t′ : List ℕ) (b : Before) (l : Line) (at′ u′ : ℕ) → 0 < n
-      → goesOn kind end at ≡ true → lineRun r t′ ≡ lineOf s kind e last at u t → r ≡ one.Next b l at′ u′
-      → linesOf s kind end (n - 1) (beforeOf b) (some (l .0)) at′ u′ t′ ≡ linesOf s kind end n e last at u t
-  unfolding linesOf
-  lines-go zero e last at u t r t′ b l at′ u′ p g h q = elim (nothing p) [ ]
-  lines-go (suc n) e last at u t r t′ b l at′ u′ p g h q = let k : suc n - 1 ≡ n = omega arith in rw (k, g, ← h, q)
-
-  -- a turn that refuses
-  pub lines-no : (n : ℕ) (e : LineRow) (last : Option ℕ) (at u : ℕ) (t : List ℕ) (r : OneLine) (t′ : List ℕ) (k : ℕ) → 0 < n
-      → goesOn kind end at ≡ true → lineRun r t′ ≡ lineOf s kind e last at u t → r ≡ one.Refused k
-      → out (rows.Refused k) t′ ≡ linesOf s kind end n e last at u t
-  unfolding linesOf
-  lines-no zero e last at u t r t′ k p g h q = elim (nothing p) [ ]
-  lines-no (suc n) e last at u t r t′ k p g h q = rw (g, ← h, q)
-
-  -- a map that ends at its place
-  pub lines-end : (n : ℕ) (e : LineRow) (last : Option ℕ) (at u : ℕ) (t : List ℕ) → goesOn kind end at ≡ false → out (rows.Next at u) t ≡ linesOf s kind end n e last at u t
-  unfolding linesOf
-  lines-end zero e last at u t g = refl
-  lines-end (suc n) e last at u t g = rw g
-
-  -- no entry is left
-  pub lines-done : (n : ℕ) (e : LineRow) (last : Option ℕ) (at u : ℕ) (t : List ℕ) → n ≤ 0 → out (rows.Next at u) t ≡ linesOf s kind end n e last at u t
-  unfolding linesOf
-  lines-done zero e last at u t p = refl
-  lines-done (suc n) e last at u t p = elim (nothing p) [ ]
 
 -- the files of a record: r is what the next file answers
 module _ (s : List ℕ) (names : ℕ) where

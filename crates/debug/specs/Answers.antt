@@ -1,20 +1,14 @@
--- What each case of this crate's answers about one entry or one head stands for: paper 01's refusal number, or the values.
+-- What each case of this crate's answers about one head stands for: paper 01's refusal number, or the values.
 -- Assumes nothing.
 use Prim.Native.Nat.{ℕ}
 use mathlib.Core.Option.{Option, none, some}
 use Rattle.format.specs.Bytes.{Answer, ok, refused}
-use Rattle.format.specs.Rows.{LineRow, lineRow}
 use Rattle.format.specs.Debug as format
-use Rattle.debug.specs.declared.Before.{Before}
 use Rattle.debug.specs.declared.LastStart.{LastStart}
 use Rattle.debug.specs.declared.LastStart.the-variants as start
 use Rattle.debug.specs.declared.FileHead.{FileHead}
 use Rattle.debug.specs.declared.Head.{Head}
 use Rattle.debug.specs.declared.Head.the-variants as head
-
--- what the next entry goes by
-abbrev pub beforeOf : Before → LineRow
-beforeOf b = lineRow (b .pos) (b .line .0)
 
 -- the start of the file before; a record's first file has none before it
 abbrev pub startOf : LastStart → Option ℕ

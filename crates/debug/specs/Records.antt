@@ -18,7 +18,7 @@ use Rattle.debug.specs.declared.Files.{Files}
 use Rattle.debug.specs.declared.Files.the-variants as files
 use Rattle.debug.specs.declared.Walk.{Walk}
 use Rattle.debug.specs.declared.Walk.the-variants as walked
-use Rattle.debug.specs.Lines.{onRun, firstBefore, linesOf}
+use Rattle.linemap.specs.Lines.{onRun, firstBefore, linesOf}
 
 -- the tables of debug files and of lines
 pub record Tabs : Type 0 where

@@ -8,7 +8,7 @@ use lib.ListN.{length, take}
 use Rattle.format.specs.Bytes.{onAnswer, has, reads, u16At, u32At}
 use Rattle.rows.specs.Table.{onRows, times}
 use Rattle.rows.specs.Rows.{stringOf}
-use Rattle.debug.specs.Lines.{onRun}
+use Rattle.linemap.specs.Lines.{onRun}
 use Rattle.debug.specs.Records.{Tabs, usedRows, spot, Held, held, state, walkOf}
 use Rattle.debug.specs.declared.Debug.{Debug}
 use Rattle.debug.specs.declared.Debug.the-variants.{Next, Refused}

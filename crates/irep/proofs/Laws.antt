@@ -13,9 +13,9 @@ use borrow.Author.Tests.{le-leb, lt-leb, eqb-false}
 use Rattle.format.specs.Bytes.{has, u32At}
 use Rattle.format.specs.Headers.{irepHeader, recordHeader}
 use Rattle.format.specs.Irep.{Head, headAt}
-use Rattle.binfmt.specs.declared.headers.SectionIrepHeaderRead.{SectionIrepHeaderRead}
-use Rattle.binfmt.specs.declared.headers.IrepRecordRead.{IrepRecordRead}
-use Rattle.binfmt.specs.Headers.{sectionIrepHeaderOf, irepRecordOf}
+use Rattle.headers.specs.declared.SectionIrepHeaderRead.{SectionIrepHeaderRead}
+use Rattle.headers.specs.declared.IrepRecordRead.{IrepRecordRead}
+use Rattle.headers.specs.Headers.{sectionIrepHeaderOf, irepRecordOf}
 use Rattle.rows.specs.Table.{rowCount}
 use Rattle.irep.specs.declared.Used.{Used}
 use Rattle.irep.specs.declared.Content.{Content}

@@ -1,9 +1,9 @@
 // The records of an IREP section, read into four lent tables: records, handlers, pool entries and symbols.
-use binfmt::IrepRecord;
-use binfmt::SectionIrepHeader;
 use binfmt::be16_to_u16;
 use binfmt::be32_to_u32;
 use binfmt::rest;
+use headers::IrepRecord;
+use headers::SectionIrepHeader;
 use rows::Row;
 use rows::Rows;
 use rows::first_row;

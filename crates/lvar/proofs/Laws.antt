@@ -8,10 +8,7 @@ use mathlib.Core.List.{List}
 use lib.Dec.{eqb}
 use lib.ListN.{length}
 use borrow.Author.Tests.{ne-eqb, leb-true, leb-false, lt-leb, le-leb}
-use Rattle.format.specs.Bytes.{ok, refused, has, reads, fourAt, u32At}
-use Rattle.format.specs.Headers.{sectionHeader}
-use Rattle.binfmt.specs.declared.headers.SectionMiscHeaderRead.{SectionMiscHeaderRead}
-use Rattle.binfmt.specs.Headers.{sectionMiscHeaderOf}
+use Rattle.format.specs.Bytes.{ok, refused, has, reads, u32At}
 use Rattle.rows.specs.declared.Rows.{Rows}
 use Rattle.rows.specs.declared.Rows.the-variants.{Next, Refused}
 use Rattle.rows.specs.Table.{Out, out, onRows, times}
@@ -60,25 +57,6 @@ module _ (f : List ℕ) (strings count : ℕ) where
 
   pub lv-rec : (p : ℕ) (st st′ : State) → go st′ ≡ lvWalk f strings count p st → st .rec ≤ st′ .rec
   lv-rec p st st′ e = walk-rec (lvStep f strings) lvKids never (λ x. x .rec) (lv-next f strings) count (count - st .rec) p st st′ (sym e)
-
--- the size in the section's header: h is what reading the header answers
-module _ (f : List ℕ) (h : SectionMiscHeaderRead) (e : h ≡ sectionMiscHeaderOf (sectionHeader f)) where
-  pub size-short : ¬ (h .refusal ≡ 0) → refused (h .refusal) ≡ reads f 0 8 (u32At f 4)
-  size-short n = by-has (has f 0 8) e
-    where
-      by-has : (b : Bool) → h ≡ sectionMiscHeaderOf (cond b (ok (record { mark = fourAt f 0; size = fourAt f 4 })) (refused 7)) → refused (h .refusal) ≡ cond b (ok (u32At f 4)) (refused 7)
-      by-has true q = absurd (n (ap (λ (x : SectionMiscHeaderRead). x .refusal) q))
-      by-has false q = ap (λ (x : SectionMiscHeaderRead). refused (x .refusal)) q
-
-  pub size-there : h .refusal ≡ 0 → ok (u32At (h .header .size) 0) ≡ reads f 0 8 (u32At f 4)
-  size-there z = by-has (has f 0 8) e
-    where
-      seven : _≡_ {A = ℕ} 7 0 → ⊥
-      seven q = omega arith
-
-      by-has : (b : Bool) → h ≡ sectionMiscHeaderOf (cond b (ok (record { mark = fourAt f 0; size = fourAt f 4 })) (refused 7)) → ok (u32At (h .header .size) 0) ≡ cond b (ok (u32At f 4)) (refused 7)
-      by-has true q = ap (λ (x : SectionMiscHeaderRead). ok (u32At (x .header .size) 0)) q
-      by-has false q = absurd (seven (sym (ap (λ (x : SectionMiscHeaderRead). x .refusal) q) ∙ z))
 
 -- what a field that was read, or not, says of the bytes and of its value
 pub field-there : (f : List ℕ) (at n v x : ℕ) → ok x ≡ reads f at n v → (has f at n ≡ true) × (x ≡ v)

@@ -1,8 +1,7 @@
 // The LVAR section: its strings, then the names of each record that the walk visits, put into lent tables of words.
 use binfmt::Field32;
-use binfmt::SectionMiscHeader;
-use binfmt::be32_to_u32;
 use binfmt::u32_at;
+use headers::section_size;
 use rows::Row;
 use rows::Rows;
 use rows::first_row;
@@ -10,8 +9,6 @@ use rows::read_rows;
 ghost use mathlib.Core.Path.{_≡_};
 ghost use Prim.Native.Nat.{_+_, _*_, _≤_, _<_};
 ghost use lib.ListN.{length};
-ghost use Rattle.format.specs.Bytes.{u32At, reads};
-ghost use Rattle.binfmt.specs.Answers.{field32Of};
 ghost use Rattle.lvar.specs.Names.{state, outOf, putNames, lvStep, lvWalk};
 ghost use Rattle.lvar.specs.Section.{filled, endOf, lvarOf};
 
@@ -134,20 +131,6 @@ fn read_lv_records(
     }
 }
 
-// The size that the section states.
-fn stated_size(f: &[u8]) -> Field32
-    ensures { λ r. ⌜ field32Of r ≡ reads (now (f .entry)) 0 8 (u32At (now (f .entry)) 4) ⌝ }
-{
-    let read = SectionMiscHeader::from_bytes(f);
-    let refusal = read.refusal;
-    if refusal != 0 {
-        return Field32::Refused(refusal);
-    }
-    let header = read.header;
-    let size = header.size;
-    Field32::Value(be32_to_u32(size))
-}
-
 // The size is not 0, and the part has as many bytes.
 fn end_size(f: &[u8], size: u32, strings: u32, names: u32) -> Lvar
     ensures { λ r. ⌜ r ≡ endOf (now (f .entry)) size strings names ⌝ }
@@ -178,7 +161,7 @@ pub fn section_lvar(
     requires { ⌜ (base + length (now f) ≤ 65536) × (count * 19 ≤ length (now records)) ⌝ }
     ensures { λ r. ⌜ filled r (now (records .exit)) (now (strings .exit)) (now (names .exit)) ≡ lvarOf (now (f .entry)) base count (now (records .entry)) (now (strings .entry)) (now (names .entry)) ⌝ }
 {
-    let Field32::Value(size) = stated_size(f) else {
+    let Field32::Value(size) = section_size(f) else {
         return Lvar::Refused(7);
     };
     let Field32::Value(n) = u32_at(f, 8) else {

@@ -6,7 +6,7 @@ use mathlib.Core.Path.{_≡_, refl, ap, _∙_}
 use mathlib.Core.Bool.{Bool, true, false, cond}
 use mathlib.Core.List.{List, [], _∷_}
 use mathlib.Core.Option.{Option, none, some}
-use lib.Dec.{ltb}
+use lib.Dec.{eqb, ltb}
 use lib.ListN.{length, getD, drop}
 use borrow.Author.Tests.{le-ltb}
 use Rattle.format.specs.Bytes.{Answer, ok, refused, onAnswer, has}
@@ -31,14 +31,15 @@ use Rattle.debug.specs.Section.{debugOf}
 use Rattle.bounds.proofs.Bounds.{reading-bounds}
 use Rattle.bounds.proofs.Grows.{Ordered, Less, length-rows, same, Grown, section-grows, sections-grow}
 use Rattle.rite.proofs.Fits.{Room, room-less, fits-true, fits-false}
-use Rattle.rite.specs.declared.Used.{Used}
-use Rattle.rite.specs.declared.Progress.{Progress}
-use Rattle.rite.specs.declared.Section.the-variants as section
-use Rattle.rite.specs.declared.Mark.the-variants as mark-is
-use Rattle.rite.specs.declared.Loaded.{Loaded}
-use Rattle.rite.specs.declared.Loaded.the-variants as loaded-is
+use Rattle.sections.specs.declared.Used.{Used}
+use Rattle.sections.specs.declared.Progress.{Progress}
+use Rattle.sections.specs.declared.Section.the-variants as section
+use Rattle.sections.specs.declared.Mark.the-variants as mark-is
+use Rattle.file.specs.declared.Loaded.{Loaded}
+use Rattle.file.specs.declared.Loaded.the-variants as loaded-is
 use Rattle.rite.specs.Answers.{loadedOf}
-use Rattle.rite.specs.Sections.{Out, out, byMark, FileOut, loaded, begun, markOf, irepOutOf, lvarOutOf, dbgOutOf, endOutOf, sectionOut, sectionsOut, fileOut}
+use Rattle.sections.specs.Sections.{begun, markOf, irepOutOf, lvarOutOf, dbgOutOf, endOutOf}
+use Rattle.file.specs.File.{Out, out, byMark, FileOut, loaded, sectionOut, sectionsOut, fileRefusal, fileOut}
 
 -- how far reading has come, by what was read
 abbrev isSome : {A : Type 0} → Option A → Bool
@@ -271,14 +272,14 @@ module _ (limit : ℕ) (m : Nine) (f : List ℕ) where
 
   -- a file, with its tests
   pub file-ran : FileRan (fileReading f) (fileOut f limit (held-words nothing))
-  unfolding fileReading fileOut
+  unfolding fileReading fileOut fileRefusal
   file-ran = by-size (ltb 65536 (length f)) (ltb (length f) 20) (majorIs04 f) (ltb (length f) 32)
     where
       by-size : (a b c d : Bool)
           → FileRan
           (cond a (part nothing (refused 1)) (cond b (part nothing (refused 2)) (cond c (cond d (part nothing (refused 4)) (sections f (length f) nothing 20)) (part nothing (refused 3)))))
-          (cond a (loaded (loaded-is.Refused 1) (held-words nothing)) (cond b (loaded (loaded-is.Refused 2) (held-words nothing))
-          (cond c (cond d (loaded (loaded-is.Refused 4) (held-words nothing)) (sectionsOut f limit (length f) 20 (held-words nothing) begun)) (loaded (loaded-is.Refused 3) (held-words nothing)))))
+          (let k = cond a 1 (cond b 2 (cond c (cond d 4 0) 3)) in
+          cond (eqb k 0) (sectionsOut f limit (length f) 20 (held-words nothing) begun) (loaded (loaded-is.Refused k) (held-words nothing)))
       by-size true b c d = Ran.stop 1 refl nothing-room refl
       by-size false true c d = Ran.stop 2 refl nothing-room refl
       by-size false false false d = Ran.stop 3 refl nothing-room refl

@@ -1,4 +1,3 @@
-pub mod Laws
 pub mod Fits
 pub mod Join
 pub mod Whole

@@ -8,12 +8,12 @@ use lib.ListN.{getD, replicate}
 use Rattle.format.specs.Rows.{tableOf}
 use Rattle.format.specs.File.{nothing}
 use Rattle.format.specs.Load.{Words, tablesOf, wordsOf, load}
-use Rattle.rite.specs.declared.Used.{Used}
-use Rattle.rite.specs.declared.Loaded.{Loaded}
-use Rattle.rite.specs.declared.Loaded.the-variants as loaded-is
+use Rattle.sections.specs.declared.Used.{Used}
+use Rattle.file.specs.declared.Loaded.{Loaded}
+use Rattle.file.specs.declared.Loaded.the-variants as loaded-is
+use Rattle.file.specs.File.{loaded, fileOut}
 use Rattle.rite.specs.Answers.{words, sizes, Zeros, loadedOf}
-use Rattle.rite.specs.Sections.{loaded, fileOut}
-use Rattle.rite.proofs.Laws.{Same}
+use Rattle.file.proofs.Laws.{Same}
 use Rattle.rite.proofs.Join.{load-is}
 
 -- a table of no rows is zeros

@@ -1,20 +1,13 @@
--- What a load answers, case by case, and nine tables as one value.
+-- What a load answers, case by case, and the lengths of nine tables.
 -- Assumes nothing.
-use Prim.Native.Nat.{ℕ}
 use mathlib.Core.Path.{_≡_}
-use mathlib.Core.List.{List}
 use lib.ListN.{length, replicate}
 use Rattle.format.specs.Bytes.{Answer, ok, refused}
 use Rattle.format.specs.Load as format
-use Rattle.rite.specs.declared.Used.{Used}
-use Rattle.rite.specs.declared.Size.{Size}
-use Rattle.rite.specs.declared.Size.the-variants as size
-use Rattle.rite.specs.declared.Loaded.{Loaded}
-use Rattle.rite.specs.declared.Loaded.the-variants as loaded
-
--- the contents of nine tables
-abbrev pub words : List ℕ → List ℕ → List ℕ → List ℕ → List ℕ → List ℕ → List ℕ → List ℕ → List ℕ → format.Words
-words a b c d e g h i j = record { records = a; handlers = b; pool = c; symbols = d; strings = e; names = g; fileNames = h; files = i; lines = j }
+use Rattle.sections.specs.declared.Used.{Used}
+use Rattle.file.specs.declared.Loaded.{Loaded}
+use Rattle.file.specs.declared.Loaded.the-variants as loaded
+pub use Rattle.file.specs.File.{words}
 
 -- their lengths
 abbrev pub sizes : format.Words → format.Nine
@@ -23,11 +16,6 @@ sizes t = record { records = length (t .records); handlers = length (t .handlers
 -- the numbers of rows that the code counts
 abbrev pub nineOf : Used → format.Nine
 nineOf u = record { records = u .records; handlers = u .handlers; pool = u .pool; symbols = u .symbols; strings = u .strings; names = u .names; fileNames = u .filenames; files = u .files; lines = u .lines }
-
--- a section's size, or its refusal's number
-abbrev pub sizeOf : Size → Answer ℕ
-sizeOf (size.Stated n) = ok n
-sizeOf (size.Refused e) = refused e
 
 -- the rows used, or the refusal's number
 abbrev pub answerOf : Loaded → Answer format.Nine

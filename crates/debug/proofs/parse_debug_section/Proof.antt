@@ -11,7 +11,7 @@ use Rattle.debug.proofs.parse_debug_section.Tie as tie
 
 returns : tie.Need-returns
 unfolding debugOf
-returns c = rw (← c .before .before .before .before .stated-size .ensures, c .before .before .stated .given .1, lt-leb _ _ (c .if1 .taken))
+returns c = rw (← c .before .before .before .before .section-size .ensures, c .before .before .stated .given .1, lt-leb _ _ (c .if1 .taken))
 
 slice-aggregate-read-content : tie.Need-slice-aggregate-read-content
 slice-aggregate-read-content c = sym (length-take-le (c .before .before .before .stated .given .0 .0) (c .before .before .before .before .before .before .before .before .before .before .before .args .f .now) (c .before .if1 .left))
@@ -21,11 +21,11 @@ read-content-requires c κs = (omega (arith, c .before .before .before .before .
 
 returns-2 : tie.Need-returns-2
 unfolding debugOf
-returns-2 c = rw (← c .before .before .before .stated-size .ensures, c .before .k .given .1)
+returns-2 c = rw (← c .before .before .before .section-size .ensures, c .before .k .given .1)
 
 returns-3 : tie.Need-returns-3
 unfolding debugOf
-returns-3 c = rw (← c .before .before .before .before .before .before .before .before .before .before .before .before .before .before .before .before .before .before .stated-size .ensures, c .before .before .before .before .before .before .before .before .before .before .before .before .before .before .before .before .stated .given .1, le-leb _ _ (c .before .before .before .before .before .before .before .before .before .before .before .before .before .before .if1 .left)) (c .before .before .before .before .before .before .before .before .read-content .ensures)
+returns-3 c = rw (← c .before .before .before .before .before .before .before .before .before .before .before .before .before .before .before .before .before .before .section-size .ensures, c .before .before .before .before .before .before .before .before .before .before .before .before .before .before .before .before .stated .given .1, le-leb _ _ (c .before .before .before .before .before .before .before .before .before .before .before .before .before .before .if1 .left)) (c .before .before .before .before .before .before .before .before .read-content .ensures)
 
 pub parse-debug-section-spec : {M : Type 1} → statement M
 parse-debug-section-spec =

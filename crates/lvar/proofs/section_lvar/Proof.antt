@@ -14,7 +14,7 @@ use Rattle.lvar.proofs.section_lvar.Tie as tie
 
 returns : tie.Need-returns
 returns c = let a = c .before .before .before .before .before .before .before .args in
-    section-cut (a .f .now) (a .base) (a .count) (a .records .now) (a .strings .now) (a .names .now) 0 8 (u32At (a .f .now) 4) _ (omega arith) (ap field32Of (sym (c .enum-told .given .1)) ∙ c .before .before .stated-size .ensures)
+    section-cut (a .f .now) (a .base) (a .count) (a .records .now) (a .strings .now) (a .names .now) 0 8 (u32At (a .f .now) 4) _ (omega arith) (ap field32Of (sym (c .enum-told .given .1)) ∙ c .before .before .section-size .ensures)
 
 returns-2 : tie.Need-returns-2
 returns-2 c = let a = c .before .before .before .before .before .before .before .before .before .before .before .args in
@@ -49,7 +49,7 @@ returns-5 c = let call = c .before .before .before .before .before .before .befo
     let z = q .before .before .before .before in
     let a = c .before .before .before .before .before .before .before .before .before .before .before .before .before .before .before .before .before .before .before .before .before .before .before .before .before .before .before .before .before .before .args in
     let t = s .read-rows .last .1 .1 .1 .1 .1 .0 in
-    let size = field-there (a .f .now) 0 8 (u32At (a .f .now) 4) (z .size .given .0 .0) (ap field32Of (sym (z .size .given .1)) ∙ z .before .before .stated-size .ensures) .1 in
+    let size = field-there (a .f .now) 0 8 (u32At (a .f .now) 4) (z .size .given .0 .0) (ap field32Of (sym (z .size .given .1)) ∙ z .before .before .section-size .ensures) .1 in
     rw (c .end-size .ensures, size)
     (ap (walked (a .f .now) (p .at .given .0 .1 .0) t) (ap (λ r. outOf r (call .last .1 .0) (call .last .1 .1 .0)) (sym (c .before .before .named .given .1)) ∙ call .ensures)
     ∙ section-strings (a .f .now) (a .base) (a .count) (a .records .now) (a .strings .now) (a .names .now) (q .n .given .0 .0) _ t

@@ -7,7 +7,7 @@ use lib.ListN.{getD}
 use Rattle.format.specs.File.{nothing}
 use Rattle.format.specs.Load.{tablesOf, wordsOf}
 use Rattle.rite.specs.Answers.{words, sizes}
-use Rattle.rite.proofs.Laws.{Same}
+use Rattle.file.proofs.Laws.{Same}
 use Rattle.rite.proofs.Whole.{zero-words, same-sizes, load-went, load-refused}
 use borrow.Author.Needs.{needs}
 use Rattle.rite.proofs.load.Statement.{statement}

@@ -1,0 +1,7 @@
+-- What the next entry of a map goes by, as a row.
+-- Assumes nothing.
+use Rattle.format.specs.Rows.{LineRow, lineRow}
+use Rattle.linemap.specs.declared.Before.{Before}
+
+abbrev pub beforeOf : Before → LineRow
+beforeOf b = lineRow (b .pos) (b .line .0)

@@ -1,0 +1,40 @@
+-- `sections::peek4` meets its contract.
+-- Assumes nothing.
+use Rattle.sections.specs.Sections.{markOf}
+use borrow.Author.Needs.{needs}
+use Rattle.sections.proofs.peek4.Statement.{statement}
+use Rattle.sections.proofs.peek4.Tie as tie
+
+returns : tie.Need-returns
+unfolding markOf
+returns c = rw (← c .before .is-mark .ensures, c .if1 .taken)
+
+returns-2 : tie.Need-returns-2
+unfolding markOf
+returns-2 c = rw (← c .before .before .before .is-mark .ensures, c .before .before .if1 .left, ← c .before .is-mark2 .ensures, c .if2 .taken)
+
+returns-3 : tie.Need-returns-3
+unfolding markOf
+returns-3 c = rw (← c .before .before .before .before .before .is-mark .ensures, c .before .before .before .before .if1 .left, ← c .before .before .before .is-mark2 .ensures, c .before .before .if2 .left, ← c .before .is-mark3 .ensures, c .if3 .taken)
+
+returns-4 : tie.Need-returns-4
+unfolding markOf
+returns-4 c = rw (← c .before .before .before .before .before .before .before .is-mark .ensures, c .before .before .before .before .before .before .if1 .left, ← c .before .before .before .before .before .is-mark2 .ensures, c .before .before .before .before .if2 .left, ← c .before .before .before .is-mark3 .ensures, c .before .before .if3 .left, ← c .before .is-mark4 .ensures, c .if4 .taken)
+
+returns-5 : tie.Need-returns-5
+unfolding markOf
+returns-5 c = rw (← c .before .before .before .before .before .before .before .is-mark .ensures, c .before .before .before .before .before .before .if1 .left, ← c .before .before .before .before .before .is-mark2 .ensures, c .before .before .before .before .if2 .left, ← c .before .before .before .is-mark3 .ensures, c .before .before .if3 .left, ← c .before .is-mark4 .ensures, c .if4 .left)
+
+pub peek4-spec : {M : Type 1} → statement M
+peek4-spec =
+    tie.close
+    (tie.spec
+    (λ c κs. search needs)
+    returns
+    (λ c κs. search needs)
+    returns-2
+    (λ c κs. search needs)
+    returns-3
+    (λ c κs. search needs)
+    returns-4
+    returns-5)
