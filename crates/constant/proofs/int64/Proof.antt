@@ -1,0 +1,29 @@
+-- `constant::int64` meets its contract.
+-- Assumes nothing.
+use borrow.Author.Tests.{ne-eqb}
+use mathlib.Core.Path.{sym, ap, _∙_}
+use Rattle.format.specs.Bytes.{ok, int64At}
+use Rattle.format.specs.Lookup.{int}
+use mir.Syntax.{w64}
+use mir.Val.{SFits}
+use mir.ValLaws.{toZ-ofZ}
+use Rattle.number.specs.Answers.{int64Of}
+use Rattle.constant.proofs.Laws.{number-read}
+use borrow.Author.Needs.{needs}
+use Rattle.constant.proofs.int64.Statement.{statement}
+use Rattle.constant.proofs.int64.Tie as tie
+
+returns : tie.Need-returns
+returns c = rw (ne-eqb (c .before .before .args .len) 8 (c .if1 .taken))
+
+returns-2 : tie.Need-returns-2
+returns-2 c = number-read int (c .before .before .before .before .before .before .args .f .now) (c .before .before .before .before .before .before .args .place) (c .before .before .before .before .before .before .args .len) 8 (int64At (c .before .before .before .before .before .before .args .f .now) (c .before .before .before .before .before .before .args .place)) (search needs) (c .before .before .before .before .if1 .left) _ (ap int64Of (sym (c .before .e .given .1)) ∙ c .before .before .before .i64-at .ensures)
+
+returns-3 : tie.Need-returns-3
+returns-3 c = let n = c .before .n .given .0 .0 in
+    let fits : SFits w64 n = search needs in
+    ap (λ z. ok (int z)) (toZ-ofZ w64 n fits) ∙ number-read int (c .before .before .before .before .before .before .args .f .now) (c .before .before .before .before .before .before .args .place) (c .before .before .before .before .before .before .args .len) 8 (int64At (c .before .before .before .before .before .before .args .f .now) (c .before .before .before .before .before .before .args .place)) (search needs) (c .before .before .before .before .if1 .left) _ (ap int64Of (sym (c .before .n .given .1)) ∙ c .before .before .before .i64-at .ensures)
+
+pub int64-spec : {M : Type 1} → statement M
+int64-spec =
+    tie.close (tie.spec returns (λ c κs. search needs) (λ c. search needs) (λ c. search needs) returns-2 returns-3)

@@ -1,0 +1,158 @@
+-- Each lookup by the words of the record's row that it reads, a row that is found, and the part of the line table that is a record's map.
+-- Assumes nothing.
+use Prim.Native.Nat.{ℕ, _+_, _*_, _-_, _/_, _≤_, _<_}
+use native.Mathlib.Nat.{add-zero, add-assoc, div-one}
+use native.Mathlib.Omega.{arith}
+use mathlib.Core.Path.{_≡_, refl, sym, ap, _∙_}
+use mathlib.Core.Bool.{Bool, true, false, cond, _&&_}
+use mathlib.Core.List.{List}
+use mathlib.Core.Option.{Option, none}
+use lib.Dec.{ltb}
+use lib.ListN.{length, getD, take, drop, length-drop}
+use lib.Seq.{length-take-le, getD-take, getD-drop, ext-getD}
+use borrow.Author.Tests.{ltb-true, lt-ltb, le-ltb, lt-leb, le-leb, ne-eqb}
+use Rattle.format.specs.Bytes.{Answer, ok, refused, bind}
+use Rattle.format.specs.Rows.{Range, RecordRow, textRow, lineRow}
+use Rattle.format.specs.Line.{halve, lineAt, rowsFrom, lineRowAt, mapOf}
+use Rattle.format.specs.Lookup as format
+use Rattle.format.proofs.RowsFrom.{rowsFrom-length, rowsFrom-at, map-length, map-entry}
+use Rattle.lookup.specs.Leaves.{range, recordWords, rowAmong, recordRow, lineIn}
+
+-- words k and k + 1 of a record's row: no row, a row of size 0, a row
+module _ (t : List ℕ) (r k : ℕ) where
+  pub record-none : length t / 19 ≤ r → refused 22 ≡ recordWords t r k
+  unfolding recordWords
+  record-none h = rw (le-ltb r (length t / 19) h)
+
+  pub record-empty : r < length t / 19 → getD t (r * 19) 0 ≡ 0 → refused 22 ≡ recordWords t r k
+  unfolding recordWords
+  record-empty h e = rw (lt-ltb r (length t / 19) h, add-zero, e)
+
+  pub record-there : r < length t / 19 → ¬ (getD t (r * 19) 0 ≡ 0) → ok (range (getD t (r * 19 + k) 0) (getD t (r * 19 + k + 1) 0)) ≡ recordWords t r k
+  unfolding recordWords
+  record-there h ne = rw (lt-ltb r (length t / 19) h, add-zero, lt-ltb 0 (getD t (r * 19) 0) (omega arith), add-assoc)
+
+-- words are missing where the record is
+pub record-missing : (t : List ℕ) (r k : ℕ) → refused 22 ≡ recordWords t r k → format.recordIn t r ≡ refused 22
+unfolding recordWords format.recordIn
+record-missing t r k e = go (format.hasRow 19 t r && ltb 0 (format.word 19 t r 0)) e
+  where
+    go : (b : Bool) → _≡_ {A = Answer Range} (refused 22) (cond b (ok (format.rangeAt t r k)) (refused 22)) → cond b (ok (format.recordRowAt t r)) (refused 22) ≡ refused 22
+    go true z = absurd (let w : _≡_ {A = ℕ} 0 1 = cc in omega arith)
+    go false z = refl
+
+-- the same words where they are the range that the field g of the row is
+module _ (t : List ℕ) (r k : ℕ) (g : RecordRow → Range) (same : g (format.recordRowAt t r) ≡ format.rangeAt t r k) where
+  words-through : {A : Type 0} (m : Range → Answer A) → bind (recordWords t r k) m ≡ bind (format.recordIn t r) (λ x. m (g x))
+  unfolding recordWords format.recordIn
+  words-through {A} m = go (format.hasRow 19 t r && ltb 0 (format.word 19 t r 0))
+    where
+      go : (b : Bool) → bind (cond b (ok (format.rangeAt t r k)) (refused 22)) m ≡ bind (cond b (ok (format.recordRowAt t r)) (refused 22)) (λ x. m (g x))
+      go true = ap m (sym same)
+      go false = refl
+
+  -- index i of that range in a table of rows of w words
+  row-through : {A : Type 0} (w : ℕ) (s : List ℕ) (i : ℕ) (m : ℕ → Answer A)
+      → bind (recordRow t r k (length s / w) i) m ≡ bind (format.recordIn t r) (λ x. bind (format.rowIn w s (g x) i) m)
+  unfolding recordRow rowAmong format.rowIn
+  row-through {A} w s i m = assoc (recordWords t r k) ∙ words-through (λ x. bind (format.rowIn w s x i) m)
+    where
+      assoc : (a : Answer Range) → bind (bind a (λ x. rowAmong (length s / w) x i)) m ≡ bind a (λ x. bind (format.rowIn w s x i) m)
+      assoc (ok x) = refl
+      assoc (refused e) = refl
+
+-- a row past its table's end, and a row that is found, which is in its table
+pub row-past : (rows : ℕ) (g : Range) (i : ℕ) → rows ≤ g .first + i → refused 22 ≡ rowAmong rows g i
+unfolding rowAmong
+row-past rows g i h = rw (le-ltb (g .first + i) rows h) (go (ltb i (g .number)))
+  where
+    go : (b : Bool) → refused 22 ≡ cond (b && false) (ok (g .first + i)) (refused 22)
+    go true = refl
+    go false = refl
+
+row-among : (rows : ℕ) (a : Answer Range) (i j : ℕ) → ok j ≡ bind a (λ x. rowAmong rows x i) → j < rows
+unfolding rowAmong
+row-among rows (refused n) i j e = absurd (let z : _≡_ {A = ℕ} 0 1 = cc in omega arith)
+row-among rows (ok x) i j e = by-tests (ltb i (x .number)) (ltb (x .first + i) rows) refl e
+  where
+    by-tests : (b d : Bool) → d ≡ ltb (x .first + i) rows → _≡_ {A = Answer ℕ} (ok j) (cond (b && d) (ok (x .first + i)) (refused 22)) → j < rows
+    by-tests true true q z = let h = ltb-true (x .first + i) rows (sym q) in let n : j ≡ x .first + i = cc in omega arith
+    by-tests true false q z = absurd (let w : _≡_ {A = ℕ} 0 1 = cc in omega arith)
+    by-tests false d q z = absurd (let w : _≡_ {A = ℕ} 0 1 = cc in omega arith)
+
+pub row-there : (t : List ℕ) (r k rows i j : ℕ) → ok j ≡ recordRow t r k rows i → j < rows
+unfolding recordRow
+row-there t r k rows i j e = row-among rows (recordWords t r k) i j e
+
+-- each lookup, of the words or the row that it finds
+module _ (f t : List ℕ) (r : ℕ) where
+  pub instructions-is : (a : Answer Range) → a ≡ recordWords t r 5 → bind a (λ g. format.bytesIn f (textRow (g .number) (g .first))) ≡ format.instructions f t r
+  unfolding format.instructions
+  instructions-is a e = rw e (words-through t r 5 (λ x. range (x .ilen) (x .place)) refl (λ g. format.bytesIn f (textRow (g .number) (g .first))))
+
+  pub handler-is : (s : List ℕ) (i : ℕ) (a : Answer ℕ) → a ≡ recordRow t r 7 (length s / 4) i → bind a (λ j. ok (format.handlerRowAt s j)) ≡ format.handler t s r i
+  unfolding format.handler
+  handler-is s i a e = rw e (row-through t r 7 (λ x. x .handlers) refl 4 s i (λ j. ok (format.handlerRowAt s j)))
+
+  pub pool-is : (s : List ℕ) (i : ℕ) (a : Answer ℕ) → a ≡ recordRow t r 9 (length s / 3) i → bind a (λ j. format.constantOf f (format.poolRowAt s j)) ≡ format.pool f t s r i
+  unfolding format.pool
+  pool-is s i a e = rw e (row-through t r 9 (λ x. x .pool) refl 3 s i (λ j. format.constantOf f (format.poolRowAt s j)))
+
+  pub symbol-is : (s : List ℕ) (i : ℕ) (a : Answer ℕ) → a ≡ recordRow t r 11 (length s / 2) i → bind a (format.textIn f s) ≡ format.symbol f t s r i
+  unfolding format.symbol
+  symbol-is s i a e = rw e (row-through t r 11 (λ x. x .symbols) refl 2 s i (format.textIn f s))
+
+  pub name-is : (strings s : List ℕ) (i : ℕ) (a : Answer ℕ) → a ≡ recordRow t r 13 (length s) i → bind a (λ j. format.nameOf f strings (format.word 1 s j 0)) ≡ format.name f t strings s r i
+  unfolding format.name
+  name-is strings s i a e =
+      rw (e, ← div-one (length s)) (row-through t r 13 (λ x. x .names) refl 1 s i (λ j. format.nameOf f strings (format.word 1 s j 0)))
+
+  pub name-found : (strings s : List ℕ) (i j : ℕ) → ok j ≡ recordRow t r 13 (length s) i → format.nameOf f strings (getD s j 0) ≡ format.name f t strings s r i
+  name-found strings s i j e = let k : j * 1 + 0 ≡ j = omega arith in rw k at (name-is strings s i (ok j) e)
+
+  pub debug-file-is : (fileNames s lines : List ℕ) (i : ℕ) (a : Answer ℕ) → a ≡ recordRow t r 15 (length s / 4) i
+      → bind a (λ j. format.debugFileOf f fileNames lines (format.fileRowAt s j)) ≡ format.debugFile f t fileNames s lines r i
+  unfolding format.debugFile
+  debug-file-is fileNames s lines i a e = rw e (row-through t r 15 (λ x. x .files) refl 4 s i (λ j. format.debugFileOf f fileNames lines (format.fileRowAt s j)))
+
+pub line-is : (t lines : List ℕ) (r p : ℕ) (a : Answer Range) → a ≡ recordWords t r 17 → bind a (λ g. lineIn lines g p) ≡ format.line t lines r p
+unfolding format.line lineIn
+line-is t lines r p a e = rw e (words-through t r 17 (λ x. x .lines) refl (λ g. lineIn lines g p))
+
+-- a part of the line table is the rows that it holds
+module _ (l : List ℕ) (first number : ℕ) (inside : first + number ≤ length l / 2) where
+  abbrev pub part : List ℕ
+  part = take ((first + number) * 2 - first * 2) (drop (first * 2) l)
+
+  part-length : length part ≡ number * 2
+  part-length =
+      let n : (first + number) * 2 - first * 2 ≡ number * 2 = omega arith in
+      rw n (length-take-le (number * 2) (drop (first * 2) l) (rw length-drop (omega arith)))
+
+  part-word : (i : ℕ) → i < number * 2 → getD part i 0 ≡ getD l (first * 2 + i) 0
+  part-word i h = getD-take ((first + number) * 2 - first * 2) (drop (first * 2) l) i 0 (omega arith) ∙ getD-drop (first * 2) l i 0
+
+  pub part-map : mapOf part ≡ rowsFrom (lineRowAt l) first number
+  part-map =
+      let n : length part / 2 ≡ number = omega (arith, part-length) in
+      ext-getD (lineRow 0 0) (mapOf part) (rowsFrom (lineRowAt l) first number) (map-length part ∙ n ∙ sym (rowsFrom-length (lineRowAt l) first number))
+      (λ i h.
+      let k : i < number = omega (arith, n, map-length part, h) in
+      let p : first * 2 + i * 2 ≡ (first + i) * 2 = omega arith in
+      let q : first * 2 + (i * 2 + 1) ≡ (first + i) * 2 + 1 = omega arith in
+      map-entry part i (omega (arith, n, k))
+      ∙ rw (part-word (i * 2) (omega (arith, k)), part-word (i * 2 + 1) (omega (arith, k)), p, q) (sym (rowsFrom-at (lineRowAt l) first number i (lineRow 0 0) k)))
+
+-- the line of an offset in rows of the line table: no rows, rows past the table's end, rows
+module _ (l : List ℕ) (first number p : ℕ) where
+  pub line-none : number ≡ 0 → ok none ≡ lineIn l (range first number) p
+  unfolding lineIn format.rowsIn lineAt halve rowsFrom
+  line-none e = rw e
+
+  pub line-past : ¬ (number ≡ 0) → length l / 2 < first + number → refused 22 ≡ lineIn l (range first number) p
+  unfolding lineIn format.rowsIn
+  line-past ne h = rw (ne-eqb number 0 ne, lt-leb (first + number) (length l / 2) h)
+
+  pub line-part : (h : first + number ≤ length l / 2) (o : Option ℕ) → ¬ (number ≡ 0) → o ≡ lineAt (mapOf (part l first number h)) p → ok o ≡ lineIn l (range first number) p
+  unfolding lineIn format.rowsIn
+  line-part h o ne e = rw (ne-eqb number 0 ne, le-leb (first + number) (length l / 2) h) (ap ok (e ∙ ap (λ m. lineAt m p) (part-map l first number h)))

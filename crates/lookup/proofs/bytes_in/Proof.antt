@@ -1,0 +1,21 @@
+-- `lookup::bytes_in` meets its contract.
+-- Assumes nothing.
+use borrow.Author.Tests.{lt-leb, le-leb}
+use Prim.Native.Nat.{_+_}
+use lib.ListN.{length}
+use Rattle.format.specs.Lookup.{bytesIn}
+use native.Mathlib.Omega.{arith}
+use borrow.Author.Needs.{needs}
+use Rattle.lookup.proofs.bytes_in.Statement.{statement}
+use Rattle.lookup.proofs.bytes_in.Tie as tie
+
+returns : tie.Need-returns
+unfolding bytesIn
+returns c = rw (lt-leb (c .before .args .place + c .before .args .«length») (length (c .before .args .f .now)) (omega (arith, c .if1 .taken)))
+
+returns-2 : tie.Need-returns-2
+unfolding bytesIn
+returns-2 c = rw (le-leb (c .before .args .place + c .before .args .«length») (length (c .before .args .f .now)) (omega (arith, c .if1 .left)))
+
+pub bytes-in-spec : {M : Type 1} → statement M
+bytes-in-spec = tie.close (tie.spec (λ c. search needs) returns returns-2)

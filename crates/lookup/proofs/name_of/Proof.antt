@@ -1,0 +1,30 @@
+-- `lookup::name_of` meets its contract.
+-- Assumes nothing.
+use borrow.Author.Tests.{eq-eqb, ne-eqb}
+use mathlib.Core.Path.{_≡_, sym, ap, _∙_}
+use Rattle.format.specs.Lookup.{textIn, nameOf}
+use Rattle.lookup.specs.declared.TextAnswer.the-variants.{At, Refused}
+use Rattle.lookup.specs.Answers.{textOf}
+use borrow.Author.Needs.{needs}
+use Rattle.lookup.proofs.name_of.Statement.{statement}
+use Rattle.lookup.proofs.name_of.Tie as tie
+
+returns : tie.Need-returns
+unfolding nameOf
+returns c = rw (eq-eqb (c .before .before .before .args .n) 65535 (c .if1 .taken))
+
+returns-2 : tie.Need-returns-2
+unfolding nameOf
+returns-2 c = let v = c .before .e .given in
+    let e : textOf (Refused (v .0 .0)) ≡ textIn (c .before .before .before .before .before .before .before .args .f .now) (c .before .before .before .before .before .before .before .args .strings .now) (c .before .before .before .before .before .before .before .args .n) = ap textOf (sym (v .1)) ∙ c .before .before .before .text-in .ensures in
+    rw (ne-eqb (c .before .before .before .before .before .before .before .args .n) 65535 (c .before .before .before .before .if1 .left), ← e)
+
+returns-3 : tie.Need-returns-3
+unfolding nameOf
+returns-3 c = let v = c .before .place .given in
+    let e : textOf (At (v .0 .0) (v .0 .1 .0)) ≡ textIn (c .before .before .before .before .before .before .before .args .f .now) (c .before .before .before .before .before .before .before .args .strings .now) (c .before .before .before .before .before .before .before .args .n) = ap textOf (sym (v .1)) ∙ c .before .before .before .text-in .ensures in
+    rw (ne-eqb (c .before .before .before .before .before .before .before .args .n) 65535 (c .before .before .before .before .if1 .left), ← e)
+
+pub name-of-spec : {M : Type 1} → statement M
+name-of-spec =
+    tie.close (tie.spec returns (λ c κs. search needs) (λ c. search needs) (λ c. search needs) returns-2 returns-3)

@@ -1,0 +1,34 @@
+-- `lookup::record_words` meets its contract.
+-- Assumes nothing.
+use Rattle.lookup.proofs.Laws.{record-none, record-empty, record-there}
+use native.Mathlib.Omega.{arith}
+use borrow.Author.Needs.{needs}
+use Rattle.lookup.proofs.record_words.Statement.{statement}
+use Rattle.lookup.proofs.record_words.Tie as tie
+
+returns : tie.Need-returns
+returns c = record-none (c .before .args .records .now) (c .before .args .rec) (c .before .args .k) (omega (arith, c .if1 .taken))
+
+returns-2 : tie.Need-returns-2
+returns-2 c = record-empty (c .before .before .before .args .records .now) (c .before .before .before .args .rec) (c .before .before .before .args .k) (omega (arith, c .before .before .if1 .left)) (c .if2 .taken)
+
+returns-3 : tie.Need-returns-3
+returns-3 c = record-there (c .before .before .before .before .before .args .records .now) (c .before .before .before .before .before .args .rec) (c .before .before .before .before .before .args .k) (omega (arith, c .before .before .before .before .if1 .left)) (c .before .before .if2 .left)
+
+pub record-words-spec : {M : Type 1} → statement M
+record-words-spec =
+    tie.close
+    (tie.spec
+    returns
+    (λ c. search needs)
+    (λ c. search needs)
+    (λ c. search needs)
+    returns-2
+    (λ c. search needs)
+    (λ c. search needs)
+    (λ c. search needs)
+    (λ c. search needs)
+    (λ c. search needs)
+    (λ c. search needs)
+    (λ c. search needs)
+    returns-3)
