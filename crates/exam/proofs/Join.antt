@@ -1,0 +1,150 @@
+-- A record's parts are the record, the records of a table are the pattern.
+-- Assumes nothing.
+use Prim.Native.Nat.{ℕ, zero, suc, _+_, _-_, _*_, _≤_, _<_}
+use native.Mathlib.Omega.{arith}
+use mathlib.Core.Path.{_≡_, refl, sym, ap, _∙_}
+use mathlib.Core.Bool.{Bool, true, false}
+use mathlib.Core.List.{List, [], _∷_}
+use lib.Dec.{eqb}
+use lib.ListN.{take, drop}
+use borrow.Author.Tests.{ne-eqb}
+use Rattle.format.specs.Insn.{Role, reg, pool, sym as symbol, child, plain, roles, rest, rowAt, operandsAt}
+use Rattle.format.specs.Line.{rowsFrom}
+use Rattle.format.specs.Lookup.{word}
+use Rattle.format.specs.Tree.{layout, whole}
+use Rattle.format.specs.Pattern.{Record, rlens}
+use Rattle.format.specs.Exam.{below, allBelow, operandsBelow, follows, refuse, first, firstAt, at1718, exam1718, exam19, exam20, examineRecord, examineAll, examinePattern}
+use Rattle.exam.specs.declared.Counts.{Counts}
+use Rattle.exam.specs.View.{recordAt, patternAt, rlensAt}
+use Rattle.exam.specs.Part.{bare, examinePart}
+use Rattle.exam.proofs.Rows.{rows-map, rows-start, rows-turn, rows-end}
+
+pub first-none : (a b : ℕ) → a ≡ 0 → first a b ≡ b
+first-none zero b e = refl
+first-none (suc a) b e = absurd (omega arith)
+
+pub first-some : (a b : ℕ) → (a ≡ 0 → ⊥) → a ≡ first a b
+first-some zero b z = absurd (z refl)
+first-some (suc a) b z = refl
+
+-- of a record only the bytes and the counts matter to 17 and 18
+firstAt-same : (f g : ℕ → ℕ) → ((o : ℕ) → f o ≡ g o) → (bs : List ℕ) (left o : ℕ) → firstAt f bs left o ≡ firstAt g bs left o
+unfolding firstAt
+firstAt-same f g e [] left o = refl
+firstAt-same f g e (b ∷ bs) zero o = rw (e o, firstAt-same f g e bs (rest b bs) (suc o))
+firstAt-same f g e (b ∷ bs) (suc left) o = firstAt-same f g e bs left (suc o)
+
+pub record Same (k : Counts) (R : Record) : Type 0 where
+  pub regs : k .nregs ≡ R .nregs
+  pub children : k .rlen ≡ R .rlen
+  pub constants : k .pool ≡ R .npool
+  pub symbols : k .syms ≡ R .nsyms
+
+module _ (k : Counts) (R : Record) (s : Same k R) where
+  below-same : (x : Role) (v : ℕ) → below (bare k (R .code)) x v ≡ below R x v
+  unfolding below
+  below-same reg v = rw (s .regs)
+  below-same pool v = rw (s .constants)
+  below-same symbol v = rw (s .symbols)
+  below-same child v = rw (s .children)
+  below-same plain v = refl
+
+  all-same : (xs : List Role) (vs : List ℕ) → allBelow (bare k (R .code)) xs vs ≡ allBelow R xs vs
+  unfolding allBelow
+  all-same [] vs = refl
+  all-same (x ∷ xs) [] = refl
+  all-same (x ∷ xs) (v ∷ vs) = rw (below-same x v, all-same xs vs)
+
+  operands-same : (o : ℕ) → operandsBelow (bare k (R .code)) o ≡ operandsBelow R o
+  unfolding operandsBelow
+  operands-same o = all-same (roles (rowAt (R .code) o)) (operandsAt (R .code) o)
+
+  bare-same : exam1718 (bare k (R .code)) ≡ exam1718 R
+  unfolding exam1718
+  bare-same =
+      firstAt-same (at1718 (bare k (R .code))) (at1718 R) (λ o. ap (λ (b : Bool). first (refuse 17 b) (refuse 18 (follows (R .code) o))) (operands-same o)) (R .code) 0 0
+
+-- the words that the code read
+module _ (f recs hs ls : List ℕ) (r : ℕ) where
+  pub record-is : (k : Counts) (a e h hn l ln n : ℕ) → Same k (recordAt f recs hs ls r) → a ≡ word 19 recs r 6 → n ≡ word 19 recs r 5 → e ≡ a + n
+      → h ≡ word 19 recs r 7 → hn ≡ word 19 recs r 8 → l ≡ word 19 recs r 17 → ln ≡ word 19 recs r 18
+      → examinePart k (take (e - a) (drop a f)) hs h hn ls l ln ≡ examineRecord (recordAt f recs hs ls r)
+  unfolding examineRecord exam19 exam20
+  record-is k a e h hn l ln n s ea en ee eh ehn el eln =
+      let d : e - a ≡ word 19 recs r 5 = omega arith in
+      rw (d, ea, eh, ehn, el, eln, bare-same k (recordAt f recs hs ls r) s)
+
+-- 15, at the record i with p trees to go
+abbrev rlenAt : List ℕ → ℕ → ℕ
+rlenAt recs r = word 19 recs r 3
+
+pub record Laid (recs : List ℕ) (n i p : ℕ) : Type 0 where
+  pub inside : i ≤ n
+  pub bounded : p ≤ 1 + 4294967296 * i
+  pub so : whole (rlensAt recs n) ≡ layout p (rowsFrom (rlenAt recs) i (n - i))
+
+layout-less : (p x : ℕ) (l : List ℕ) → (p ≡ 0 → ⊥) → layout p (x ∷ l) ≡ layout (p - 1 + x) l
+unfolding layout
+layout-less zero x l z = absurd (z refl)
+layout-less (suc p) x l z = let e : suc p - 1 ≡ p = omega arith in rw e
+
+layout-none : (x : ℕ) (l : List ℕ) (p : ℕ) → p ≡ 0 → false ≡ layout p (x ∷ l)
+unfolding layout
+layout-none x l zero e = refl
+layout-none x l (suc p) e = absurd (omega arith)
+
+layout-nil : (p : ℕ) → eqb p 0 ≡ layout p []
+unfolding layout
+layout-nil zero = refl
+layout-nil (suc p) = ne-eqb (suc p) 0 (λ e. omega arith)
+
+module _ {recs : List ℕ} {n : ℕ} where
+  pub laid-start : Laid recs n 0 1
+  laid-start = record { inside = omega arith; bounded = omega arith; so = ap (layout 1) (rows-start (rlenAt recs) 0 n n (omega arith)) }
+
+  module _ {i p : ℕ} (h : i < n) (g : Laid recs n i p) where
+    pub laid-turn : {x : ℕ} → (p ≡ 0 → ⊥) → x ≡ rlenAt recs i → x < 4294967296 → Laid recs n (i + 1) (p - 1 + x)
+    laid-turn {x} z e b = record {
+      inside = omega arith;
+      bounded = omega (arith, g .bounded);
+      so = g .so ∙ rw (rows-turn (rlenAt recs) i n h, ← e) (layout-less p x (rowsFrom (rlenAt recs) (i + 1) (n - (i + 1))) z);
+    }
+
+    pub laid-bad : p ≡ 0 → false ≡ whole (rlensAt recs n)
+    laid-bad e = layout-none (rlenAt recs i) (rowsFrom (rlenAt recs) (i + 1) (n - (i + 1))) p e ∙ sym (g .so ∙ rw (rows-turn (rlenAt recs) i n h))
+
+  pub laid-end : {i p : ℕ} → n ≤ i → Laid recs n i p → eqb p 0 ≡ whole (rlensAt recs n)
+  laid-end {i} {p} h g = layout-nil p ∙ sym (g .so ∙ rw (rows-end (rlenAt recs) i n h))
+
+-- the records in turn, at the record r
+pub record Passed (f recs hs ls : List ℕ) (n r : ℕ) : Type 0 where
+  pub so : examinePattern (patternAt f recs hs ls n) ≡ examineAll (rowsFrom (recordAt f recs hs ls) r (n - r))
+
+module _ (f recs hs ls : List ℕ) (n : ℕ) where
+  rlens-are : rlens (patternAt f recs hs ls n) ≡ rlensAt recs n
+  rlens-are = rows-map (recordAt f recs hs ls) (λ (R : Record). R .rlen) 0 n
+
+  pub passed-bad : whole (rlensAt recs n) ≡ false → 15 ≡ examinePattern (patternAt f recs hs ls n)
+  unfolding examinePattern
+  passed-bad e = rw (rlens-are, e)
+
+module _ {f recs hs ls : List ℕ} {n : ℕ} where
+  pub passed-start : whole (rlensAt recs n) ≡ true → Passed f recs hs ls n 0
+  unfolding examinePattern
+  passed-start e = record { so = rw (rlens-are f recs hs ls n, e) (ap examineAll (rows-start (recordAt f recs hs ls) 0 n n (omega arith))) }
+
+  module _ {r : ℕ} (h : r < n) (g : Passed f recs hs ls n r) where
+    turned : examinePattern (patternAt f recs hs ls n)
+        ≡ first (examineRecord (recordAt f recs hs ls r)) (examineAll (rowsFrom (recordAt f recs hs ls) (r + 1) (n - (r + 1))))
+    unfolding examineAll
+    turned = g .so ∙ rw (rows-turn (recordAt f recs hs ls) r n h)
+
+    pub passed-turn : {x : ℕ} → x ≡ examineRecord (recordAt f recs hs ls r) → x ≡ 0 → Passed f recs hs ls n (r + 1)
+    passed-turn e z = record { so = turned ∙ first-none (examineRecord (recordAt f recs hs ls r)) _ (sym e ∙ z) }
+
+    pub passed-stop : {x : ℕ} → x ≡ examineRecord (recordAt f recs hs ls r) → (x ≡ 0 → ⊥) → x ≡ examinePattern (patternAt f recs hs ls n)
+    passed-stop {x} e z = rw (turned, ← e) (first-some x _ z)
+
+  pub passed-end : {r : ℕ} → n ≤ r → Passed f recs hs ls n r → 0 ≡ examinePattern (patternAt f recs hs ls n)
+  unfolding examineAll
+  passed-end {r} h g = sym (g .so ∙ rw (rows-end (recordAt f recs hs ls) r n h))

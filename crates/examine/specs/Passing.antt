@@ -1,0 +1,19 @@
+-- A file that is loaded, has at most so many records, and meets none of 15 to 20: what examination and follow have in common.
+-- Assumes nothing.
+use Prim.Native.Nat.{ℕ}
+use mathlib.Core.Bool.{cond}
+use mathlib.Core.List.{List}
+use lib.Dec.{leb}
+use lib.ListN.{length}
+use Rattle.format.specs.Bytes.{Answer, refused, bind}
+use Rattle.format.specs.File.{Content}
+use Rattle.format.specs.Load.{Nine, recordsOf, loading}
+use Rattle.format.specs.Pattern.{Pattern}
+use Rattle.format.specs.Exam.{examinePattern, passing}
+
+abbrev pub passingIn : List ℕ → Nine → ℕ → Answer Content
+passingIn f m rows = bind (loading f m) (λ c. cond (leb (length (recordsOf c)) rows) (passing f c) (refused 14))
+
+-- 14 where a pattern of n records has more than so many, else the number that its examination answers
+abbrev pub refusalOf : ℕ → ℕ → Pattern → ℕ
+refusalOf rows n p = cond (leb n rows) (examinePattern p) 14

@@ -1,0 +1,45 @@
+-- `run::jump` meets its contract.
+-- Assumes nothing.
+use mathlib.Core.Path.{refl, ap, _∙_}
+use Rattle.format.specs.Run.{to}
+use Rattle.run.proofs.Moves.{room, jumps-here, jump-is, jump-on}
+use borrow.Author.Needs.{needs}
+use Rattle.run.proofs.jump.Statement.{statement}
+use Rattle.run.proofs.jump.Tie as tie
+
+shared-slice-read-op-row : tie.Need-shared-slice-read-op-row
+shared-slice-read-op-row c = room (c .before .before .pre) .inside
+
+jump-target-requires : tie.Need-jump-target-requires
+jump-target-requires c κs = let a = c .before .before .before .before .before .args in jumps-here (a .code .now) (a .o) (c .before .before .op-row .result) (c .before .before .op-row .ensures) (c .enum-told4 .given .1) tt (c .before .before .before .before .before .pre)
+
+returns : tie.Need-returns
+returns c = let a = c .before .before .before .before .before .before .args in jump-on (a .code .now) (a .o) (c .before .before .before .op-row .result) (c .before .before .before .op-row .ensures) (c .before .enum-told .given .1) refl (c .go-on .ensures)
+
+returns-2 : tie.Need-returns-2
+returns-2 c = let a = c .before .before .before .before .before .before .args in jump-on (a .code .now) (a .o) (c .before .before .before .op-row .result) (c .before .before .before .op-row .ensures) (c .before .enum-told2 .given .1) refl (c .go-on2 .ensures)
+
+returns-3 : tie.Need-returns-3
+returns-3 c = let a = c .before .before .before .before .before .before .args in jump-on (a .code .now) (a .o) (c .before .before .before .op-row .result) (c .before .before .before .op-row .ensures) (c .before .enum-told3 .given .1) refl (c .go-on3 .ensures)
+
+returns-4 : tie.Need-returns-4
+returns-4 c = let a = c .before .before .before .before .before .before .args in ap to (c .jump-target .ensures) ∙ jump-is (a .code .now) (a .o) (c .before .before .before .op-row .result) (c .before .before .before .op-row .ensures) (c .before .enum-told4 .given .1)
+
+pub jump-spec : {M : Type 1} → statement M
+jump-spec =
+    tie.close
+    (tie.spec
+    shared-slice-read-op-row
+    (λ c κs. search needs)
+    (λ c. search needs)
+    (λ c κs. search needs)
+    (λ c. search needs)
+    (λ c κs. search needs)
+    (λ c. search needs)
+    (λ c κs. search needs)
+    (λ c. search needs)
+    jump-target-requires
+    returns
+    returns-2
+    returns-3
+    returns-4)

@@ -1,0 +1,54 @@
+-- `run::jump_target` meets its contract.
+-- Assumes nothing.
+use native.Mathlib.Omega.{arith}
+use Rattle.runs.proofs.Jumps.{room}
+use Rattle.run.proofs.Moves.{target-low, target-high, not-before}
+use borrow.Author.Needs.{needs}
+use Rattle.run.proofs.jump_target.Statement.{statement}
+use Rattle.run.proofs.jump_target.Tie as tie
+
+next-offset-requires : tie.Need-next-offset-requires
+next-offset-requires c κs = (room (c .before .pre) .inside, room (c .before .pre) .whole)
+
+sub-at : tie.Need-sub-at
+sub-at c = omega (arith, room (c .before .before .pre), c .next-offset .ensures)
+
+shared-slice-read-wide : tie.Need-shared-slice-read-wide
+shared-slice-read-wide c = omega (arith, room (c .before .before .before .pre), c .before .next-offset .ensures)
+
+shared-slice-read-wide-2 : tie.Need-shared-slice-read-wide-2
+shared-slice-read-wide-2 c = omega (arith, room (c .before .before .before .before .before .pre), c .before .before .before .next-offset .ensures)
+
+add-result : tie.Need-add-result
+add-result c = omega (arith, room (c .before .before .before .before .before .before .before .pre), c .before .before .before .before .before .next-offset .ensures, c .before .before .before .wide .ensures, c .before .wide2 .ensures)
+
+add-result-2 : tie.Need-add-result-2
+add-result-2 c = omega (arith, room (c .before .before .before .before .before .before .before .pre), c .before .before .before .before .before .next-offset .ensures, c .before .before .before .wide .ensures, c .before .wide2 .ensures)
+
+sub-result : tie.Need-sub-result
+sub-result c = not-before (c .before .before .before .before .before .before .before .pre) (c .before .before .before .before .before .next-offset .ensures) (c .before .before .before .wide .ensures .0) (c .before .wide2 .ensures .0) (c .if1 .left)
+
+returns : tie.Need-returns
+returns c = target-low (c .before .before .before .before .before .before .before .pre) (c .before .before .before .before .before .next-offset .ensures) (c .before .before .before .wide .ensures .0) (c .before .wide2 .ensures .0) (c .if1 .taken)
+
+returns-2 : tie.Need-returns-2
+returns-2 c = target-high (c .before .before .before .before .before .before .before .pre) (c .before .before .before .before .before .next-offset .ensures) (c .before .before .before .wide .ensures .0) (c .before .wide2 .ensures .0) (c .if1 .left)
+
+pub jump-target-spec : {M : Type 1} → statement M
+jump-target-spec =
+    tie.close
+    (tie.spec
+    next-offset-requires
+    sub-at
+    shared-slice-read-wide
+    (λ c κs. search needs)
+    (λ c. search needs)
+    (λ c. search needs)
+    shared-slice-read-wide-2
+    (λ c κs. search needs)
+    (λ c. search needs)
+    add-result
+    add-result-2
+    sub-result
+    returns
+    returns-2)

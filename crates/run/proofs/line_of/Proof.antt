@@ -1,0 +1,28 @@
+-- `run::line_of` meets its contract.
+-- Assumes nothing.
+use Rattle.run.proofs.View.{line-is}
+use borrow.Author.Needs.{needs}
+use Rattle.run.proofs.line_of.Statement.{statement}
+use Rattle.run.proofs.line_of.Tie as tie
+
+returns : tie.Need-returns
+returns c = let a = c .before .before .before .before .before .before .args in line-is (a .records .now) (a .lines .now) (a .r) (a .o) (c .before .before .before .before .before .before .pre .1) (c .before .before .before .word .ensures .0) (c .before .before .word2 .ensures .0) (c .line-at .ensures)
+
+pub line-of-spec : {M : Type 1} → statement M
+line-of-spec =
+    tie.close
+    (tie.spec
+    (λ c. search needs)
+    (λ c. search needs)
+    (λ c κs. search needs)
+    (λ c. search needs)
+    (λ c. search needs)
+    (λ c κs. search needs)
+    (λ c. search needs)
+    (λ c. search needs)
+    (λ c. search needs)
+    (λ c. search needs)
+    (λ c. search needs)
+    (λ c. search needs)
+    (λ c κs. search needs)
+    returns)

@@ -1,0 +1,39 @@
+-- `run::move_in` meets its contract.
+-- Assumes nothing.
+use native.Mathlib.Omega.{arith}
+use mathlib.Core.Path.{sym, subst}
+use Prim.Native.Nat.{ℕ}
+use mathlib.Core.List.{List}
+use Rattle.runs.specs.Stack.{Stands}
+use Rattle.run.specs.Answers.{choiceOf}
+use Rattle.run.proofs.View.{code-is}
+use Rattle.run.proofs.Moves.{moved-in}
+use borrow.Author.Needs.{needs}
+use Rattle.run.proofs.move_in.Statement.{statement}
+use Rattle.run.proofs.move_in.Tie as tie
+
+move-at-requires : tie.Need-move-at-requires
+move-at-requires c κs = let a = c .before .before .before .before .before .before .before .before .args in (subst (λ (x : List ℕ). Stands x (a .o)) (sym (code-is (a .file .now) (a .records .now) (a .r) _ _ (c .before .before .before .before .word .ensures .0) (c .before .before .before .word2 .ensures .0))) (c .before .before .before .before .before .before .before .before .pre .1 .1 .1), omega (arith, c .before .before .before .before .before .before .before .before .pre .1 .1 .0, c .before .before .word3 .ensures .0, c .before .word4 .ensures .0))
+
+returns : tie.Need-returns
+returns c = let a = c .before .before .before .before .before .before .before .before .before .args in moved-in (a .file .now) (a .records .now) (a .handlers .now) (a .r) (a .o) (choiceOf (a .choice)) (c .before .before .before .before .before .word .ensures .0) (c .before .before .before .before .word2 .ensures .0) (c .before .before .before .word3 .ensures .0) (c .before .before .word4 .ensures .0) (c .move-at .ensures)
+
+pub move-in-spec : {M : Type 1} → statement M
+move-in-spec =
+    tie.close
+    (tie.spec
+    (λ c. search needs)
+    (λ c. search needs)
+    (λ c κs. search needs)
+    (λ c. search needs)
+    (λ c κs. search needs)
+    (λ c. search needs)
+    (λ c. search needs)
+    (λ c κs. search needs)
+    (λ c. search needs)
+    (λ c κs. search needs)
+    (λ c. search needs)
+    (λ c. search needs)
+    (λ c. search needs)
+    move-at-requires
+    returns)

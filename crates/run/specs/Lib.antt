@@ -1,0 +1,4 @@
+pub mod Answers
+pub mod Part
+pub mod Frames
+pub mod Follow
