@@ -1,34 +1,30 @@
--- What the exported structs say of the format's answers.
+-- What the caller of a load, an examination or a follow has afterwards: the struct, and the contents of the lent tables.
 -- Assumes nothing.
 use Prim.Native.Nat.{ℕ}
-use mathlib.Core.Option.{Option, none, some}
-use lib.ListN.{getD}
-use Rattle.format.specs.Bytes.{Answer, ok, refused}
-use Rattle.format.specs.Insn.{Kind, Z, B, BB, S, BBB, BS, W, BSS, Insn}
-use Rattle.blotheath.specs.declared.BlotheathFetched.{BlotheathFetched}
-use Rattle.blotheath.specs.declared.BlotheathLine.{BlotheathLine}
+use mathlib.Core.List.{List}
+use Rattle.format.specs.Load as format
+use Rattle.format.specs.Run as run
+use Rattle.boundary.specs.declared.BlotheathLoaded.{BlotheathLoaded}
+use Rattle.boundary.specs.declared.BlotheathFollowed.{BlotheathFollowed}
+use Rattle.boundary.specs.Structs as structs
 
-abbrev pub kindNumber : Kind → ℕ
-kindNumber Z = 0
-kindNumber B = 1
-kindNumber BB = 2
-kindNumber S = 3
-kindNumber BBB = 4
-kindNumber BS = 5
-kindNumber W = 6
-kindNumber BSS = 7
+pub record Exported : Type 0 where
+  pub answer : BlotheathLoaded
+  pub tables : format.Words
 
-abbrev pub given : ℕ → ℕ → ℕ → ℕ → BlotheathFetched
-given k a b c = record { refusal = 0; kind = k; a = a; b = b; c = c }
+abbrev pub exported : BlotheathLoaded → format.Words → Exported
+exported r t = record { answer = r; tables = t }
 
--- an instruction: its kind's number and its operands, 0 for one that it lacks
-abbrev pub instructionIs : Insn → BlotheathFetched
-instructionIs i = given (kindNumber (i .kind)) (getD (i .operands) 0 0) (getD (i .operands) 1 0) (getD (i .operands) 2 0)
+abbrev pub loadedIs : format.Loaded → Exported
+loadedIs l = exported (structs.loadedIs (l .answer)) (l .tables)
 
-abbrev pub fetchedIs : Answer Insn → BlotheathFetched
-fetchedIs (ok i) = instructionIs i
-fetchedIs (refused n) = record { refusal = n; kind = 0; a = 0; b = 0; c = 0 }
+pub record Ran : Type 0 where
+  pub answer : BlotheathFollowed
+  pub tables : format.Words
+  pub frames : List ℕ
 
-abbrev pub lineIs : Option ℕ → BlotheathLine
-lineIs (some l) = record { found = 1; line = l }
-lineIs none = record { found = 0; line = 0 }
+abbrev pub ran : BlotheathFollowed → format.Words → List ℕ → Ran
+ran r t f = record { answer = r; tables = t; frames = f }
+
+abbrev pub ranIs : run.Followed → Ran
+ranIs x = ran (structs.followedIs (x .answer)) (x .tables) (x .frames)

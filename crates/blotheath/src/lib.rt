@@ -1,74 +1,33 @@
 // The C boundary: total calls on numbers and slices, with answers that are structs of numbers.
-use insn::FetchAnswer;
-use insn::Fetched;
-use line::LineAt;
+use boundary::BlotheathConstant;
+use boundary::BlotheathDebugFile;
+use boundary::BlotheathFetched;
+use boundary::BlotheathFollowed;
+use boundary::BlotheathHandler;
+use boundary::BlotheathLine;
+use boundary::BlotheathLoaded;
+use boundary::BlotheathLookedLine;
+use boundary::BlotheathName;
+use boundary::BlotheathText;
 use line::Pos;
 ghost use mathlib.Core.Path.{_≡_};
+ghost use lib.ListN.{length};
 ghost use Rattle.format.specs.Insn.{fetch};
 ghost use Rattle.format.specs.Line.{lineAt, mapOf};
-ghost use Rattle.insn.specs.Answers.{fetchedOf};
-ghost use Rattle.blotheath.specs.Exported.{given, fetchedIs, instructionIs, lineIs};
-
-// A fetched instruction: the refusal's number, 0 for none; the operand kind, in the order Z, B, BB, S, BBB, BS, W, BSS from 0 on; its operands,
-// 0 for one that it lacks.
-#[repr(C)]
-pub struct BlotheathFetched {
-    pub refusal: u32,
-    pub kind: u32,
-    pub a: u32,
-    pub b: u32,
-    pub c: u32,
-}
-
-// A line: 1 where there is one, else 0; and its number.
-#[repr(C)]
-pub struct BlotheathLine {
-    pub found: u32,
-    pub line: u32,
-}
-
-fn operands(kind: u32, a: u32, b: u32, c: u32) -> BlotheathFetched
-    ensures { λ r. ⌜ r ≡ given kind a b c ⌝ }
-{
-    BlotheathFetched {
-        refusal: 0,
-        kind,
-        a,
-        b,
-        c,
-    }
-}
-
-fn instruction(f: Fetched) -> BlotheathFetched
-    ensures { λ r. ⌜ r ≡ instructionIs (fetchedOf f) ⌝ }
-{
-    match f {
-        Fetched::Z => operands(0, 0, 0, 0),
-        Fetched::B(a) => operands(1, a as u32, 0, 0),
-        Fetched::BB(a, b) => operands(2, a as u32, b as u32, 0),
-        Fetched::S(s) => operands(3, s as u32, 0, 0),
-        Fetched::BBB(a, b, c) => operands(4, a as u32, b as u32, c as u32),
-        Fetched::BS(a, s) => operands(5, a as u32, s as u32, 0),
-        Fetched::W(w) => operands(6, w, 0, 0),
-        Fetched::BSS(a, s, t) => operands(7, a as u32, s as u32, t as u32),
-    }
-}
+ghost use Rattle.format.specs.Load.{load};
+ghost use Rattle.format.specs.Lookup as lookup;
+ghost use Rattle.format.specs.Exam.{examine};
+ghost use Rattle.format.specs.Run.{follow};
+ghost use Rattle.rite.specs.Answers.{words, sizes};
+ghost use Rattle.boundary.specs.Structs.{fetchedIs, lineIs, textIs, handlerIs, constantIs, nameIs, debugFileIs, lookedLineIs};
+ghost use Rattle.blotheath.specs.Exported.{exported, loadedIs, ran, ranIs};
 
 // The instruction at the start of these bytes.
 #[no_mangle]
 pub extern "C" fn blotheath_fetch(code: &[u8]) -> BlotheathFetched
     ensures { λ r. ⌜ r ≡ fetchedIs (fetch (now (code .entry))) ⌝ }
 {
-    match insn::fetch(code) {
-        FetchAnswer::Ok(f) => instruction(f),
-        FetchAnswer::Refused(n) => BlotheathFetched {
-            refusal: n as u32,
-            kind: 0,
-            a: 0,
-            b: 0,
-            c: 0,
-        },
-    }
+    boundary::fetched(insn::fetch(code))
 }
 
 // The line of a position in a map of rows of two words: position, line.
@@ -76,11 +35,192 @@ pub extern "C" fn blotheath_fetch(code: &[u8]) -> BlotheathFetched
 pub extern "C" fn blotheath_line_at(map: &[u32], pos: u32) -> BlotheathLine
     ensures { λ r. ⌜ r ≡ lineIs (lineAt (mapOf (now (map .entry))) pos) ⌝ }
 {
-    match line::line_at(map, Pos(pos)) {
-        LineAt::At(l) => BlotheathLine {
-            found: 1,
-            line: l.0,
-        },
-        LineAt::Nothing => BlotheathLine { found: 0, line: 0 },
-    }
+    boundary::line_found(line::line_at(map, Pos(pos)))
+}
+
+// The place and length of a record's instructions.
+#[no_mangle]
+pub extern "C" fn blotheath_instructions(file: &[u8], records: &[u32], rec: u32) -> BlotheathText
+    ensures { λ r. ⌜ r ≡ textIs (lookup.instructions (now (file .entry)) (now (records .entry)) rec) ⌝ }
+{
+    boundary::text(lookup::instructions(file, records, rec))
+}
+
+// A handler of a record.
+#[no_mangle]
+pub extern "C" fn blotheath_handler(
+    records: &[u32],
+    handlers: &[u32],
+    rec: u32,
+    index: u32,
+) -> BlotheathHandler
+    ensures { λ r. ⌜ r ≡ handlerIs (lookup.handler (now (records .entry)) (now (handlers .entry)) rec index) ⌝ }
+{
+    boundary::handler(lookup::handler(records, handlers, rec, index))
+}
+
+// A constant of a record.
+#[no_mangle]
+pub extern "C" fn blotheath_pool(
+    file: &[u8],
+    records: &[u32],
+    pool: &[u32],
+    rec: u32,
+    index: u32,
+) -> BlotheathConstant
+    ensures { λ r. ⌜ r ≡ constantIs (lookup.pool (now (file .entry)) (now (records .entry)) (now (pool .entry)) rec index) ⌝ }
+{
+    boundary::constant(lookup::pool(file, records, pool, rec, index))
+}
+
+// A symbol of a record.
+#[no_mangle]
+pub extern "C" fn blotheath_symbol(
+    file: &[u8],
+    records: &[u32],
+    symbols: &[u32],
+    rec: u32,
+    index: u32,
+) -> BlotheathText
+    ensures { λ r. ⌜ r ≡ textIs (lookup.symbol (now (file .entry)) (now (records .entry)) (now (symbols .entry)) rec index) ⌝ }
+{
+    boundary::text(lookup::symbol(file, records, symbols, rec, index))
+}
+
+// A local variable's name.
+#[no_mangle]
+pub extern "C" fn blotheath_name(
+    file: &[u8],
+    records: &[u32],
+    strings: &[u32],
+    names: &[u32],
+    rec: u32,
+    index: u32,
+) -> BlotheathName
+    ensures { λ r. ⌜ r ≡ nameIs (lookup.name (now (file .entry)) (now (records .entry)) (now (strings .entry)) (now (names .entry)) rec index) ⌝ }
+{
+    boundary::name(lookup::name(file, records, strings, names, rec, index))
+}
+
+// A debug file of a record.
+#[no_mangle]
+pub extern "C" fn blotheath_debug_file(
+    file: &[u8],
+    records: &[u32],
+    filenames: &[u32],
+    files: &[u32],
+    lines: &[u32],
+    rec: u32,
+    index: u32,
+) -> BlotheathDebugFile
+    ensures { λ r. ⌜ r ≡ debugFileIs (lookup.debugFile (now (file .entry)) (now (records .entry)) (now (filenames .entry)) (now (files .entry)) (now (lines .entry)) rec index) ⌝ }
+{
+    boundary::debug_file(lookup::debug_file(file, records, filenames, files, lines, rec, index))
+}
+
+// The line of an offset of a record.
+#[no_mangle]
+pub extern "C" fn blotheath_line(
+    records: &[u32],
+    lines: &[u32],
+    rec: u32,
+    offset: u32,
+) -> BlotheathLookedLine
+    ensures { λ r. ⌜ r ≡ lookedLineIs (lookup.line (now (records .entry)) (now (lines .entry)) rec offset) ⌝ }
+{
+    boundary::looked_line(lookup::line(records, lines, rec, Pos(offset)))
+}
+
+// Loads a file into nine lent tables.
+#[no_mangle]
+pub extern "C" fn blotheath_load(
+    file: &[u8],
+    records: &mut [u32],
+    handlers: &mut [u32],
+    pool: &mut [u32],
+    symbols: &mut [u32],
+    strings: &mut [u32],
+    names: &mut [u32],
+    filenames: &mut [u32],
+    files: &mut [u32],
+    lines: &mut [u32],
+) -> BlotheathLoaded
+    ensures { λ r. ⌜ exported r (words (now (records .exit)) (now (handlers .exit)) (now (pool .exit)) (now (symbols .exit)) (now (strings .exit)) (now (names .exit)) (now (filenames .exit)) (now (files .exit)) (now (lines .exit))) ≡ loadedIs (load (now (file .entry)) (sizes (words (now (records .entry)) (now (handlers .entry)) (now (pool .entry)) (now (symbols .entry)) (now (strings .entry)) (now (names .entry)) (now (filenames .entry)) (now (files .entry)) (now (lines .entry))))) ⌝ }
+{
+    boundary::loaded(rite::load(
+        file,
+        records,
+        handlers,
+        pool,
+        symbols,
+        strings,
+        names,
+        filenames,
+        files,
+        lines,
+    ))
+}
+
+// Examines a file over nine lent tables.
+#[no_mangle]
+pub extern "C" fn blotheath_examine(
+    file: &[u8],
+    records: &mut [u32],
+    handlers: &mut [u32],
+    pool: &mut [u32],
+    symbols: &mut [u32],
+    strings: &mut [u32],
+    names: &mut [u32],
+    filenames: &mut [u32],
+    files: &mut [u32],
+    lines: &mut [u32],
+) -> BlotheathLoaded
+    ensures { λ r. ⌜ exported r (words (now (records .exit)) (now (handlers .exit)) (now (pool .exit)) (now (symbols .exit)) (now (strings .exit)) (now (names .exit)) (now (filenames .exit)) (now (files .exit)) (now (lines .exit))) ≡ loadedIs (examine (now (file .entry)) (sizes (words (now (records .entry)) (now (handlers .entry)) (now (pool .entry)) (now (symbols .entry)) (now (strings .entry)) (now (names .entry)) (now (filenames .entry)) (now (files .entry)) (now (lines .entry))))) ⌝ }
+{
+    boundary::loaded(examine::examine(
+        file,
+        records,
+        handlers,
+        pool,
+        symbols,
+        strings,
+        names,
+        filenames,
+        files,
+        lines,
+    ))
+}
+
+// Follows the run of a file along choice bytes, over nine lent tables and a frame table.
+#[no_mangle]
+pub extern "C" fn blotheath_follow(
+    file: &[u8],
+    records: &mut [u32],
+    handlers: &mut [u32],
+    pool: &mut [u32],
+    symbols: &mut [u32],
+    strings: &mut [u32],
+    names: &mut [u32],
+    filenames: &mut [u32],
+    files: &mut [u32],
+    lines: &mut [u32],
+    frames: &mut [u32],
+    choices: &[u8],
+) -> BlotheathFollowed
+    ensures { λ r. ⌜ ran r (words (now (records .exit)) (now (handlers .exit)) (now (pool .exit)) (now (symbols .exit)) (now (strings .exit)) (now (names .exit)) (now (filenames .exit)) (now (files .exit)) (now (lines .exit))) (now (frames .exit)) ≡ ranIs (follow (now (file .entry)) (sizes (words (now (records .entry)) (now (handlers .entry)) (now (pool .entry)) (now (symbols .entry)) (now (strings .entry)) (now (names .entry)) (now (filenames .entry)) (now (files .entry)) (now (lines .entry)))) (length (now (frames .entry))) (now (choices .entry))) ⌝ }
+{
+    boundary::followed(follow::follow(
+        file,
+        records,
+        handlers,
+        pool,
+        symbols,
+        strings,
+        names,
+        filenames,
+        files,
+        lines,
+        frames,
+        choices,
+    ))
 }

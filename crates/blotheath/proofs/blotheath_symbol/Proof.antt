@@ -1,0 +1,19 @@
+-- `blotheath::blotheath_symbol` meets its contract.
+-- Assumes nothing.
+use mathlib.Core.Path.{ap, _∙_}
+use Rattle.boundary.specs.Structs.{textIs}
+use borrow.Author.Needs.{needs}
+use Rattle.blotheath.proofs.blotheath_symbol.Statement.{statement}
+use Rattle.blotheath.proofs.blotheath_symbol.Tie as tie
+
+symbol-requires : tie.Need-symbol-requires
+symbol-requires c κs = search needs
+
+text-requires : tie.Need-text-requires
+text-requires c κs = search needs
+
+returns : tie.Need-returns
+returns c = c .text .ensures ∙ ap textIs (c .before .symbol .ensures)
+
+pub blotheath-symbol-spec : {M : Type 1} → statement M
+blotheath-symbol-spec = tie.close (tie.spec symbol-requires text-requires returns)
