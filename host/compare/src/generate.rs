@@ -29,7 +29,11 @@ impl Generator {
     pub fn file(&self, seed: u64, index: u64) -> (usize, Vec<u8>) {
         let mut rng = Rng::new(seed, index);
         let odd = rng.pick(&[0, 0, 0, 400, 100, 40, 15]);
-        let mut maker = Maker { rng, odd };
+        let mut maker = Maker {
+            rng,
+            odd,
+            sound: false,
+        };
         let family = match maker.rng.below(1000) {
             0..280 => 0,
             280..440 => 1,
@@ -67,12 +71,55 @@ impl Generator {
         };
         (family, file)
     }
+
+    /// The file of a seed and an index for examination: two in three pass, or would but for one change where examination looks.
+    pub fn examinable(&self, seed: u64, index: u64) -> Vec<u8> {
+        let mut rng = Rng::new(seed.wrapping_add(1 << 32), index);
+        if rng.one_in(3) {
+            return self.file(seed, index).1;
+        }
+        let mut maker = Maker {
+            rng,
+            odd: 0,
+            sound: true,
+        };
+        let debug = maker.rng.one_in(2);
+        let mut file = if maker.rng.one_in(8) && !self.corpus.is_empty() {
+            self.corpus[maker.rng.below(self.corpus.len())].clone()
+        } else {
+            maker.structured(debug)
+        };
+        if maker.rng.one_in(2) {
+            maker.flaw(&mut file);
+        }
+        file
+    }
+
+    /// The file of a seed and an index for a run: most pass.
+    pub fn runnable(&self, seed: u64, index: u64) -> Vec<u8> {
+        let mut rng = Rng::new(seed.wrapping_add(2 << 32), index);
+        match rng.below(16) {
+            0 => self.examinable(seed, index),
+            1 if !self.corpus.is_empty() => self.corpus[rng.below(self.corpus.len())].clone(),
+            _ => {
+                let debug = rng.one_in(2);
+                let mut maker = Maker {
+                    rng,
+                    odd: 0,
+                    sound: true,
+                };
+                maker.structured(debug)
+            }
+        }
+    }
 }
 
 /// Makes one file; each field is odd once in so many times, never where that is 0.
 struct Maker {
     rng: Rng,
     odd: usize,
+    /// Whether trees are whole, and code, handlers and most maps are such that they pass.
+    sound: bool,
 }
 
 /// What the walks look at in a record.
@@ -122,6 +169,23 @@ fn seen(file: &[u8]) -> Vec<Seen> {
             rlen: record.rlen as usize,
         })
         .collect()
+}
+
+/// Where the instructions of code begin, as far as they are whole.
+fn begins(code: &[u8]) -> Vec<usize> {
+    let mut begins = Vec::new();
+    let mut at = 0;
+    while let Some(opcode) = code
+        .get(at)
+        .and_then(|byte| OPCODES.get(usize::from(*byte)))
+    {
+        if at + opcode.kind.size() > code.len() {
+            break;
+        }
+        begins.push(at);
+        at += opcode.kind.size();
+    }
+    begins
 }
 
 impl Maker {
@@ -261,17 +325,35 @@ impl Maker {
     /// Instructions that pass examination in a record with these bounds, and where they begin.
     fn good_code(&mut self, bound: impl Fn(Role) -> usize) -> (Vec<u8>, Vec<usize>) {
         let mut opcodes = Vec::new();
-        let number = self.small(12);
+        let number = if self.sound {
+            self.rng.below(14)
+        } else {
+            self.small(12)
+        };
+        let fits = |opcode: usize| {
+            let has_rows = |role: &Role| *role == Role::Plain || bound(*role) > 0;
+            !(115..=117).contains(&opcode) && roles(&OPCODES[opcode]).iter().all(has_rows)
+        };
         while opcodes.len() < number {
-            let opcode = self.rng.below(OPCODES.len());
-            let fits = roles(&OPCODES[opcode])
-                .iter()
-                .all(|role| *role == Role::Plain || bound(*role) > 0);
-            if fits && !(115..=117).contains(&opcode) {
+            let mut opcode = self.rng.below(OPCODES.len());
+            if self.sound && self.rng.one_in(2) {
+                // Jumps and child opcodes.
+                opcode = self
+                    .rng
+                    .pick(&[38, 39, 40, 41, 42, 97, 98, 99, 105, 97, 105]);
+            }
+            if fits(opcode) {
                 opcodes.push(opcode);
             }
         }
-        opcodes.push(118);
+        let mut last = 118;
+        if self.sound {
+            // Ending opcodes, JMP and JMPUW.
+            last = self
+                .rng
+                .pick(&[118, 61, 62, 63, 64, 65, 66, 67, 53, 114, 38, 42]);
+        }
+        opcodes.push(if fits(last) { last } else { 118 });
         let mut begins = vec![0];
         for opcode in &opcodes {
             begins.push(begins[begins.len() - 1] + OPCODES[*opcode].kind.size());
@@ -323,12 +405,16 @@ impl Maker {
             nlocals
         };
         let nregs = nlocals + self.small(8);
-        let handlers = if self.rng.one_in(3) { self.small(5) } else { 0 };
+        let handlers = if self.sound || self.rng.one_in(3) {
+            self.small(5)
+        } else {
+            0
+        };
         let constants = if self.rng.one_in(2) { self.small(8) } else { 0 };
         let symbols = if self.rng.one_in(2) { self.small(8) } else { 0 };
         let (code, begins) = match code {
             Some(code) => (code.to_vec(), vec![0]),
-            None if self.rng.one_in(4) => (self.code(), vec![0]),
+            None if !self.sound && self.rng.one_in(4) => (self.code(), vec![0]),
             None => self.good_code(|role| match role {
                 Role::Plain => 0,
                 Role::Register => nregs,
@@ -346,7 +432,7 @@ impl Maker {
         body.extend(code);
         for _ in 0..handlers {
             let mut handler = self.handler();
-            if !self.rng.one_in(8) {
+            if self.sound || !self.rng.one_in(8) {
                 let target = self.rng.pick(&begins);
                 handler[9..].copy_from_slice(&be4(target));
             }
@@ -367,7 +453,7 @@ impl Maker {
 
     /// Numbers of children: of a whole tree, or any.
     fn rlens(&mut self, count: usize) -> Vec<usize> {
-        if self.rng.one_in(6) {
+        if !self.sound && self.rng.one_in(6) {
             let bound = self.rng.pick(&[2, 3, 5, 65_536]);
             return (0..count).map(|_| self.rng.below(bound)).collect();
         }
@@ -495,6 +581,7 @@ impl Maker {
         let count = match self.rng.below(8) {
             0 => 0,
             1..=4 => 1,
+            _ if self.sound && !self.rng.one_in(8) => 1,
             _ => self.rng.between(2, 4),
         };
         let mut start = if self.rng.one_in(3) {
@@ -502,7 +589,7 @@ impl Maker {
         } else {
             0
         };
-        if self.rng.one_in(12) {
+        if !self.sound && self.rng.one_in(12) {
             start = u32::MAX as usize - self.rng.below(12);
         }
         let mut content = be2(self.count(count)).to_vec();
@@ -563,7 +650,7 @@ impl Maker {
             };
             line = (line + change) % 65_536;
             position += self.small(12);
-            if self.rng.one_in(12) {
+            if !self.sound && self.rng.one_in(12) {
                 position = self.rng.word() as usize;
             }
             match kind {
@@ -599,6 +686,7 @@ impl Maker {
     /// A packed number of every length: shortest, longer than needed, with bits above 31.
     fn packed(&mut self) -> Vec<u8> {
         let number = match self.rng.below(10) {
+            _ if self.sound => self.small(100) as u64,
             0..=2 => 0,
             3..=6 => self.small(100) as u64,
             7 => {
@@ -1016,6 +1104,106 @@ impl Maker {
         }
         file.extend(rest);
         file
+    }
+
+    /// Changes one thing that examination looks at, in a record of the file as it loads.
+    fn flaw(&mut self, file: &mut Vec<u8>) {
+        let reading = model::read(file, [usize::MAX; 9]);
+        let records = reading.rows.records.rows;
+        if reading.end.is_err() || records.is_empty() {
+            return;
+        }
+        let record = records[self.rng.below(records.len())];
+        let place = record.place as usize;
+        let ilen = record.ilen as usize;
+        let steps = begins(&file[place..place + ilen]);
+        let Some(step) = (!steps.is_empty()).then(|| self.rng.pick(&steps)) else {
+            return;
+        };
+        let last = place + steps[steps.len() - 1];
+        let at = place + step;
+        match self.rng.below(16) {
+            0 => {
+                // The number of children.
+                let rlen = record.rlen as usize + self.rng.pick(&[1, 2, 65_535, 65_534]);
+                file[place - 8..place - 6].copy_from_slice(&be2(rlen));
+            }
+            1 => file[at] = self.rng.pick(&[115, 116, 117, 119, 120, 127, 128, 255]),
+            2 => file[last] = self.rng.below(119) as u8,
+            3 => {
+                // An instruction of one byte that does not end, or a longer one that is cut.
+                file[last] = self.rng.pick(&[0, 59, 0, 59, 1, 15, 57]);
+            }
+            4..=7 => self.flaw_operand(file, at, &record),
+            8 | 9 => {
+                let jumps: Vec<usize> = steps
+                    .iter()
+                    .map(|step| place + step)
+                    .filter(|at| (38..=42).contains(&file[*at]))
+                    .collect();
+                if !jumps.is_empty() {
+                    let jump = self.rng.pick(&jumps);
+                    self.flaw_jump(file, jump, ilen);
+                }
+            }
+            10..=12 if record.clen > 0 => {
+                let handler = self.rng.below(record.clen as usize);
+                let at = place + ilen + 13 * handler + 9;
+                let target = match self.rng.below(4) {
+                    0 => ilen,
+                    1 => self.rng.word() as usize,
+                    _ => self.rng.below(ilen + 2),
+                };
+                file[at..at + 4].copy_from_slice(&be4(target));
+            }
+            13 => {
+                let at = place + self.rng.below(ilen);
+                file[at] = self.rng.byte();
+            }
+            _ => self.flaw_map(file),
+        }
+    }
+
+    /// An operand of an instruction: at its bound, beside it, or any.
+    fn flaw_operand(&mut self, file: &mut [u8], at: usize, record: &model::Record) {
+        let roles = roles(&OPCODES[usize::from(file[at])]);
+        let operand = self.rng.below(2);
+        let bound = match roles[operand] {
+            Role::Plain => return,
+            Role::Register => record.nregs,
+            Role::Pool => record.pool.number,
+            Role::Symbol => record.symbols.number,
+            Role::Child => record.rlen,
+        };
+        let number = (bound + self.rng.pick(&[0, 0, 1])).saturating_sub(self.rng.pick(&[0, 0, 1]));
+        // An operand of one byte does not reach a higher bound.
+        file[at + 1 + operand] = number.min(255) as u8;
+    }
+
+    /// A jump's distance: to the code's end, below its start, beside the right one, or any.
+    fn flaw_jump(&mut self, file: &mut [u8], at: usize, ilen: usize) {
+        let size = OPCODES[usize::from(file[at])].kind.size();
+        let distance = at + size - 2;
+        let right = usize::from(file[distance]) * 256 + usize::from(file[distance + 1]);
+        let other = match self.rng.below(4) {
+            0 => right + 1,
+            1 => right.wrapping_sub(1),
+            2 => self.rng.below(ilen + 4).wrapping_sub(ilen / 2),
+            _ => self.rng.pick(&[32_767, 32_768, 65_535, 0]),
+        };
+        file[distance..distance + 2].copy_from_slice(&be2(other));
+    }
+
+    /// A byte of the DBG section, which may be of a position.
+    fn flaw_map(&mut self, file: &mut [u8]) {
+        let Some(start) = crate::expected::section(file, b"DBG\0") else {
+            return;
+        };
+        let size = u32::from_be_bytes(file[start + 4..start + 8].try_into().unwrap()) as usize;
+        if size > 10 {
+            let at = start + self.rng.between(10, size - 1);
+            file[at] = self.rng.byte();
+        }
     }
 
     /// A file with one to four changes.

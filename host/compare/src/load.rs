@@ -142,6 +142,11 @@ fn end_of(outcome: &Outcome) -> &'static str {
 /// The file that is at work, for the watch.
 static AT_WORK: Mutex<Option<(Instant, Vec<u8>)>> = Mutex::new(None);
 
+/// Says to the watch which file is at work.
+pub fn at_work(file: &[u8]) {
+    *AT_WORK.lock().unwrap() = Some((Instant::now(), file.to_vec()));
+}
+
 /// Ends the process where one file takes too long.
 pub fn watch() {
     thread::spawn(|| {
@@ -181,7 +186,7 @@ pub fn hex(bytes: &[u8]) -> String {
     bytes.iter().map(|b| format!("{b:02x}")).collect()
 }
 
-fn difference(what: &str, file: &[u8], why: &str) -> Stop {
+pub fn difference(what: &str, file: &[u8], why: &str) -> Stop {
     Stop::Difference(format!(
         "{what}, {} bytes\n{why}\nfile {}",
         file.len(),
@@ -332,7 +337,7 @@ pub fn one(
     rng: &mut Rng,
     counts: &mut Counts,
 ) -> Result<Refusal, String> {
-    *AT_WORK.lock().unwrap() = Some((Instant::now(), file.to_vec()));
+    at_work(file);
     let reading = model::read(file, [usize::MAX; 9]);
     let needed = reading.rows.used();
     let number = reading.end.err().unwrap_or(0);

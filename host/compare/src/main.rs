@@ -1,11 +1,16 @@
 //! Holds paper 01's model, and the port where it is linked, against the original.
 
 mod args;
+#[cfg(feature = "port")]
+mod bench;
+mod examine;
 mod expected;
 mod fetch;
+mod follow;
 mod generate;
 mod lines;
 mod load;
+mod lookups;
 mod oracle;
 #[cfg(feature = "port")]
 mod port;
@@ -24,8 +29,12 @@ compare make --files N --seed S [--first I] [--number R] -o FOLDER
 compare file PATH..                           these files
 compare fetch [--seed S]                      every first byte with every length
 compare line [--maps N] [--seed S]            maps and positions, falling ones too
+compare lookup [--tables N] [--seed S]        lookups in the tables of loads and in any tables
+compare examine [--files N] [--seed S]        examinations of the corpus and of generated files
+compare follow [--files N] [--seed S]         runs along any choices
 compare store --seed S --count N -o FILE      writes stored reference answers
 compare replay PATH..                         replays stored reference answers
+compare bench [--rounds N]                    times of the port's load and the original's, with the feature port
 
 BLOTHEATH_CORPUS names the folder of real files; ../shared/corpus beside the repository if it is not set.
 Exit status: 0 without a difference, 1 with one, 2 for usage or a file that is not there.";
@@ -40,6 +49,11 @@ pub enum Stop {
 
 fn run() -> Result<(), Stop> {
     let args = args::Args::read(std::env::args().skip(1)).map_err(Stop::Usage)?;
+    // Times alone may be taken of an original without overflow checks.
+    if args.command != "bench" && quiet::inside(original::checks_overflow) != Ok(true) {
+        let why = "the original is built without overflow checks";
+        return Err(Stop::Usage(why.into()));
+    }
     match args.command.as_str() {
         "load" => load::generated(&args),
         "damage" => load::damaged(),
@@ -47,8 +61,13 @@ fn run() -> Result<(), Stop> {
         "file" => load::files(&args),
         "fetch" => fetch::compare(&args),
         "line" => lines::compare(&args),
+        "lookup" => lookups::compare(&args),
+        "examine" => examine::compare(&args),
+        "follow" => follow::compare(&args),
         "store" => store::write(&args),
         "replay" => store::replay(&args),
+        #[cfg(feature = "port")]
+        "bench" => bench::bench(&args),
         "help" | "--help" | "-h" => {
             println!("{USAGE}");
             Ok(())
@@ -60,10 +79,6 @@ fn run() -> Result<(), Stop> {
 fn main() -> ExitCode {
     if let Err(error) = quiet::silence() {
         println!("the error output can't be silenced: {error}");
-        return ExitCode::from(2);
-    }
-    if quiet::inside(original::checks_overflow) != Ok(true) {
-        println!("the original is built without overflow checks");
         return ExitCode::from(2);
     }
     match run() {

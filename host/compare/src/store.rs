@@ -1,137 +1,147 @@
-//! Stored reference answers: written here, replayed by a program that has neither the original nor the model.
+//! Stored reference answers: written here, replayed by a program that has neither the original nor the model (crates/replay).
 //!
 //! # The form
 //!
-//! Plain ASCII, one item a line, every line ended by one line feed, never a carriage return.
-//! The first character says what the line is; a blank and the item follow.
-//! Numbers are base ten without sign, parted by one blank.
-//! Bytes stand one behind the other, two hexadecimal digits each (0 to 9, a to f).
-//! A byte that is followed by `*`, a number and `.` stands that many times: `61*3.` is `616161`.
-//! No bytes, or a map without entries, is `-`.
+//! Items, one behind the other. Numbers have four bytes, high byte first. An item begins with its kind:
 //!
 //! ```text
-//! # TEXT                a remark
-//! F BYTES               a file; the loads of it follow
-//! L W0 .. W8            words lent of each of the nine tables
-//! A N R0 .. R8          their load's answer: refusal's number or 0, rows used
-//! B N R0 .. R8          the same, where the original has no answer (1, 6, 8, 14)
-//! S S0 .. S8            the sums of the nine tables afterwards, over all lent words
-//! C BYTES               bytes to fetch from
-//! R N KIND A B C        their answer: refusal's number or 0, operand kind, operands
-//! M P0 L0 P1 L1 ..      a map: positions and lines; lookups in it follow
-//! P POS FOUND LINE      a lookup: position, 1 or 0 for none, line or 0
-//! Z N                   the last line: the number of lines before it
+//! 0                         the end
+//! 1 LENGTH BYTES            bytes: a file to load or code to fetch from
+//! 2 W0 .. W8 N R0 .. R8 S   a load of these bytes over nine tables of so many words:
+//!                           refusal's number or 0, rows used, the sum of all lent words afterwards
+//! 3 N KIND A B C            a fetch from these bytes: refusal's number or 0, operand kind, operands
+//! 4 WORDS P0 L0 P1 L1 ..    words: how many, then a map's positions and lines, or the lengths of nine tables and their words
+//! 5 POS FOUND LINE          a line lookup in this map: position, 1 or 0 for none, line or 0
+//! 6 LENGTH NAME             the end of a group of answers, and its name
+//! 7 W0 .. W8 N R0 .. R8 S   an examination of these bytes, as a load
+//! 8 W0 .. W8 N R0 .. R8 S F LENGTH CHOICES
+//!                           a follow of these bytes along choices, over a frame table of F words: refusal's number or 0, then finished,
+//!                           record, offset, found, line, frames and three zeros, the sum of all lent words, the frame table's last
+//! 9 LOOKUP REC INDEX N A B C D E
+//!                           a lookup in these bytes and nine tables: refusal's number or 0, then the fields of its answer, zeros behind them
+//! 10 REC INDEX N KIND PLACE LENGTH INT FLOAT
+//!                           a constant's lookup; INT and FLOAT have eight bytes, low byte first
 //! ```
 //!
-//! `F` is followed by one or more groups of `L`, then `A` or `B`, then `S`; `C` by one `R`; `M` by one or more `P`.
 //! The nine tables are records (19 words a row), handlers (4), pool (3), symbols (2), strings (2), names (1),
-//! file_names (2), files (4), lines (2), always in this order.
-//! The kinds 0 to 7 are Z, B, BB, S, BBB, BS, W, BSS.
-//! The sum of a table begins with 0; for each word w it becomes (sum * 65599 + w + 1) modulo 4294967291.
-//! A replay fills the lent words with anything but the answer before each load, so that the sum shows every word written.
+//! file_names (2), files (4), lines (2), always in this order; the first has at most 20,000 words, the others 8,192.
+//! A frame table has at most 2,048 words. There are at most 512 words of kind 4. The kinds 0 to 7 are Z, B, BB, S, BBB, BS, W, BSS.
+//! Lookups are numbered from 0: instructions, handler, pool, symbol, name, debug file, line.
+//! The sum begins with 0; for each word w, table by table, it becomes (sum * 65599 + w + 1) modulo 4294967291.
+//! A replay fills the lent words with anything but the answer before each call, so that the sum shows every word written.
+//!
+//! Answers of load are the model's, held against the original before they are stored; 1, 6, 8 and 14 have no counterpart there.
+//! Answers of fetch and of line lookups in maps are the original's. Those of examination, follow and the seven lookups are the model's:
+//! the original has none of them.
 
 use crate::Stop;
 use crate::args::Args;
 use crate::expected;
 use crate::fetch;
+use crate::follow;
 use crate::generate::Generator;
 use crate::lines;
 use crate::load::{Counts, corpus, garbage, one, other_sizes};
+use crate::lookups;
 use crate::oracle::{self, Outcome};
 use crate::rng::Rng;
-use crate::subject::{Answer, Fetch, Model, Subject, subjects};
-use model::{OPCODES, Sizes};
+use crate::subject::{Answer, Fetch, Follow, Found, LOOKUPS, Lookup, Model, Subject, subjects};
+use model::{OPCODES, Sizes, Tables};
 use original::rite::rite::line_at;
-use std::fmt::Write;
 use std::fs;
 
-/// The longest text of a generated file.
-const LONGEST: usize = 1_600;
+/// The most bytes of a generated file, but for those at a limit.
+const LONGEST: usize = 700;
+/// The most words of each lent table.
+const MOST: [usize; 9] = [
+    20_000, 8_192, 8_192, 8_192, 8_192, 8_192, 8_192, 8_192, 8_192,
+];
+/// The most words of a frame table.
+const MOST_FRAMES: usize = 2_048;
+/// The most words of a stored item of words.
+const MOST_WORDS: usize = 512;
 
 /// `compare store`
 pub fn write(args: &Args) -> Result<(), Stop> {
     args.only(&["--seed", "--count", "-o"])
         .map_err(Stop::Usage)?;
     let seed = args.number("--seed", 1).map_err(Stop::Usage)?;
-    let count = args.number("--count", 400).map_err(Stop::Usage)?;
+    let count = args.number("--count", 200).map_err(Stop::Usage)?;
     let path = args.text("-o").ok_or(Stop::Usage("-o is missing".into()))?;
     let mut store = Store::default();
-    store.line('#', "Reference answers of load, fetch and line_at.");
-    store.line(
-        '#',
-        "The form stands at the top of host/compare/src/store.rs.",
-    );
-    store.line('#', &format!("compare store --seed {seed} --count {count}"));
     let mut counts = Counts::default();
-    let loaded = loads(&mut store, seed, count as usize, &mut counts).map_err(Stop::Difference)?;
-    let fetches = fetches(&mut store, seed).map_err(Stop::Difference)?;
-    let maps = maps(&mut store, seed);
-    let lines = store.lines;
-    store.line('Z', &lines.to_string());
-    fs::write(path, &store.text).map_err(|error| Stop::Usage(format!("{path}: {error}")))?;
+    loads(&mut store, seed, count as usize, &mut counts).map_err(Stop::Difference)?;
+    fetches(&mut store, seed).map_err(Stop::Difference)?;
+    maps(&mut store, seed);
+    examinable_files(&mut store, seed)?;
+    looked_up(&mut store, seed)?;
+    store.item(0, []);
+    fs::write(path, &store.bytes).map_err(|error| Stop::Usage(format!("{path}: {error}")))?;
     print!("{}", counts.words());
-    println!(
-        "stored: {loaded} loads, {fetches} fetches, {maps} line lookups, {} bytes",
-        store.text.len()
-    );
+    println!("stored: {} bytes", store.bytes.len());
     Ok(())
 }
 
 #[derive(Default)]
 struct Store {
-    text: String,
-    lines: usize,
+    bytes: Vec<u8>,
 }
 
 impl Store {
-    fn line(&mut self, letter: char, item: &str) {
-        writeln!(self.text, "{letter} {item}").unwrap();
-        self.lines += 1;
-    }
-}
-
-fn numbers<N: ToString>(list: impl IntoIterator<Item = N>) -> String {
-    let words: Vec<String> = list.into_iter().map(|n| n.to_string()).collect();
-    words.join(" ")
-}
-
-/// Bytes as text, runs of more than eight in short.
-fn bytes_text(bytes: &[u8]) -> String {
-    if bytes.is_empty() {
-        return "-".to_owned();
-    }
-    let mut text = String::new();
-    for run in bytes.chunk_by(|one, next| one == next) {
-        if run.len() > 8 {
-            write!(text, "{:02x}*{}.", run[0], run.len()).unwrap();
-        } else {
-            run.iter().for_each(|b| write!(text, "{b:02x}").unwrap());
+    fn item(&mut self, kind: u32, numbers: impl IntoIterator<Item = u32>) {
+        self.bytes.extend(kind.to_be_bytes());
+        for number in numbers {
+            self.bytes.extend(number.to_be_bytes());
         }
     }
-    text
-}
 
-/// The sum of a table's words.
-fn sum(words: &[u32]) -> u64 {
-    let step = |sum: u64, word: &u32| (sum * 65_599 + u64::from(*word) + 1) % 4_294_967_291;
-    words.iter().fold(0, step)
-}
-
-/// The corpus, then generated files, two in five of which load, the others spread over the refusals.
-fn loads(store: &mut Store, seed: u64, count: usize, counts: &mut Counts) -> Result<usize, String> {
-    let corpus = corpus();
-    let mut stored = 0;
-    for (i, (name, file)) in corpus.iter().enumerate() {
-        store.line('#', name);
-        let mut rng = Rng::new(seed, u64::MAX - i as u64);
-        stored += one_file(store, file, &mut rng, counts)?;
+    fn bytes(&mut self, kind: u32, bytes: &[u8]) {
+        self.item(kind, [bytes.len() as u32]);
+        self.bytes.extend(bytes);
     }
+
+    /// A load, an examination or the head of a follow.
+    fn call(&mut self, kind: u32, sizes: &Sizes, refusal: u32, numbers: &[u32; 9], sum: u32) {
+        let words = sizes.0.map(|words| words as u32);
+        self.item(
+            kind,
+            [&words[..], &[refusal], &numbers[..], &[sum]].concat(),
+        );
+    }
+}
+
+/// The sum of the words of nine tables and of the frame table.
+fn sum(tables: &Tables, frames: &[u32]) -> u32 {
+    let step = |sum: u64, word: &u32| (sum * 65_599 + u64::from(*word) + 1) % 4_294_967_291;
+    tables.iter().flatten().chain(frames).fold(0, step) as u32
+}
+
+/// Nine numbers of a follow's answer.
+fn nine(followed: &Follow) -> [u32; 9] {
+    let mut nine = [0; 9];
+    nine[..6].copy_from_slice(&followed.numbers);
+    nine
+}
+
+/// The corpus, then generated files by their answer: two in five load, the others are spread over the refusals.
+fn loads(store: &mut Store, seed: u64, count: usize, counts: &mut Counts) -> Result<(), String> {
+    let corpus = corpus();
+    for (i, (_, file)) in corpus.iter().enumerate() {
+        let mut rng = Rng::new(seed, u64::MAX - i as u64);
+        one_file(store, file, &mut rng, counts)?;
+        examinations(store, file, &mut rng)?;
+        runs(store, file, 3, &mut rng)?;
+    }
+    store.bytes(6, b"real files, loaded, examined and followed");
     let generator = Generator {
         corpus: corpus.into_iter().map(|(_, file)| file).collect(),
     };
-    let mut left = [count * 3 / 5 / 14 + 1; 15];
+    let mut groups: [Store; 15] = Default::default();
+    let mut left = [count * 3 / 5 / 13 + 1; 15];
     left[0] = count - count * 3 / 5;
-    // The limit of 1,024 records needs long files: one on each side of it.
+    // Files of 1 and the limit of 1,024 records need many bytes: one file of 1, and one on each side of the limit.
+    left[1] = 1;
+    left[14] = 0;
     let mut at_the_limit = [1, 1];
     for index in 0.. {
         let all = left.iter().chain(&at_the_limit).all(|n| *n == 0);
@@ -141,25 +151,46 @@ fn loads(store: &mut Store, seed: u64, count: usize, counts: &mut Counts) -> Res
         let (_, file) = generator.file(seed, index);
         let reading = model::read(&file, [usize::MAX; 9]);
         let number = reading.end.err().unwrap_or(0) as usize;
-        let limit = match (number, reading.rows.used()[0]) {
+        let used = reading.rows.used();
+        // Room is left for the rows that other sizes add.
+        if used
+            .iter()
+            .zip(model::ROW_WORDS)
+            .zip(MOST)
+            .any(|((n, row), most)| (n + 3) * row > most)
+        {
+            continue;
+        }
+        let limit = match (number, used[0]) {
             (0, 1_024) => Some(0),
             (14, _) => Some(1),
             _ => None,
         };
-        if let Some(side) = limit {
-            if at_the_limit[side] == 0 {
-                continue;
-            }
-            at_the_limit[side] -= 1;
-            left[14] = 0;
-        } else if left[number] == 0 || bytes_text(&file).len() > LONGEST {
+        let left = match limit {
+            Some(side) => &mut at_the_limit[side],
+            None if number != 1 && file.len() > LONGEST => continue,
+            None => &mut left[number],
+        };
+        if *left == 0 {
             continue;
-        } else {
-            left[number] -= 1;
         }
-        stored += one_file(store, &file, &mut Rng::new(!seed, index), counts)?;
+        *left -= 1;
+        one_file(
+            &mut groups[number],
+            &file,
+            &mut Rng::new(!seed, index),
+            counts,
+        )?;
     }
-    Ok(stored)
+    for (number, group) in groups.iter().enumerate() {
+        store.bytes.extend(&group.bytes);
+        let name = match number {
+            0 => "generated files that load".to_owned(),
+            n => format!("generated files of {n}"),
+        };
+        store.bytes(6, name.as_bytes());
+    }
+    Ok(())
 }
 
 /// A file over tables that fit it, over longer ones, and over any.
@@ -168,9 +199,11 @@ fn one_file(
     file: &[u8],
     rng: &mut Rng,
     counts: &mut Counts,
-) -> Result<usize, String> {
+) -> Result<(), String> {
     let subjects = subjects();
-    let number = one(&subjects, file, rng, counts)?;
+    // What is stored does not depend on how many subjects there are.
+    let mut other = Rng::new(rng.next(), 0);
+    let number = one(&subjects, file, &mut other, counts)?;
     let called = ![1, 6, 8, 14].contains(&number);
     let outcome = called.then(|| oracle::load(file));
     let needed = model::read(file, [usize::MAX; 9]).rows.used();
@@ -179,8 +212,9 @@ fn one_file(
         lent.push(Sizes::of_rows(needed.map(|rows| rows + 1)));
     }
     lent.push(other_sizes(needed, rng));
-    store.line('F', &bytes_text(file));
+    store.bytes(1, file);
     for sizes in &lent {
+        replayable(sizes)?;
         let mut tables = garbage(sizes, rng);
         let answer = Model.load(file, &mut tables);
         if answer.refusal == 0
@@ -188,19 +222,166 @@ fn one_file(
         {
             expected::compare(&Model, file, rite, &answer, &tables)?;
         }
-        let held = outcome.is_some() && answer.refusal != 14;
-        store.line('L', &numbers(sizes.0));
-        store.line(
-            if held { 'A' } else { 'B' },
-            &format!("{} {}", answer.refusal, numbers(answer.rows)),
-        );
-        store.line('S', &numbers(tables.iter().map(|table| sum(table))));
+        let Answer { refusal, rows } = answer;
+        store.call(2, sizes, refusal, &rows, sum(&tables, &[]));
     }
-    Ok(lent.len())
+    Ok(())
+}
+
+/// Whether a replay has so many words.
+fn replayable(sizes: &Sizes) -> Result<(), String> {
+    if sizes.0.iter().zip(MOST).any(|(words, most)| *words > most) {
+        return Err(format!("{:?} words are more than a replay has", sizes.0));
+    }
+    Ok(())
+}
+
+/// Examinations of the file that stands last: over tables that fit it, and over any.
+fn examinations(store: &mut Store, file: &[u8], rng: &mut Rng) -> Result<(), String> {
+    let needed = model::read(file, [usize::MAX; 9]).rows.used();
+    for sizes in [Sizes::of_rows(needed), other_sizes(needed, rng)] {
+        replayable(&sizes)?;
+        let mut tables = garbage(&sizes, rng);
+        let Answer { refusal, rows } = Model.examine(file, &mut tables);
+        store.call(7, &sizes, refusal, &rows, sum(&tables, &[]));
+    }
+    Ok(())
+}
+
+/// Runs of the file that stands last, along any choices.
+fn runs(store: &mut Store, file: &[u8], number: usize, rng: &mut Rng) -> Result<(), String> {
+    let needed = model::read(file, [usize::MAX; 9]).rows.used();
+    let sizes = Sizes::of_rows(needed);
+    replayable(&sizes)?;
+    for _ in 0..number {
+        let words = follow::frame_words(needed[0], rng).min(MOST_FRAMES);
+        let mut choices = follow::choices_of(file, &sizes, words, rng);
+        choices.truncate(60);
+        let mut tables = garbage(&sizes, rng);
+        let mut frames = vec![1; words];
+        let followed = Model.follow(file, &mut tables, &mut frames, &choices);
+        let sum = sum(&tables, &frames);
+        store.call(8, &sizes, followed.refusal, &nine(&followed), sum);
+        store.bytes.extend((words as u32).to_be_bytes());
+        store.bytes.extend((choices.len() as u32).to_be_bytes());
+        store.bytes.extend(choices);
+    }
+    Ok(())
+}
+
+/// Generated files by the examination's answer, with runs of those that pass.
+fn examinable_files(store: &mut Store, seed: u64) -> Result<(), Stop> {
+    let generator = Generator { corpus: Vec::new() };
+    for number in [0, 15, 16, 17, 18, 19, 20] {
+        let mut left = if number == 0 { 20 } else { 8 };
+        for index in 0.. {
+            if left == 0 {
+                break;
+            }
+            let file = if number == 0 {
+                generator.runnable(seed, index)
+            } else {
+                generator.examinable(seed, index)
+            };
+            let reading = model::read(&file, [usize::MAX; 9]);
+            let examined = reading
+                .end
+                .and_then(|()| model::passes(&file, &reading.rows));
+            let large = file.len() > 500 || number == 0 && reading.rows.used()[0] < 2;
+            if large || examined.err().unwrap_or(0) != number {
+                continue;
+            }
+            left -= 1;
+            let mut rng = Rng::new(!seed, index);
+            store.bytes(1, &file);
+            examinations(store, &file, &mut rng).map_err(Stop::Difference)?;
+            let number = if number == 0 { 5 } else { 1 };
+            runs(store, &file, number, &mut rng).map_err(Stop::Difference)?;
+        }
+        let name = match number {
+            0 => "generated files that pass, examined and followed".to_owned(),
+            n => format!("generated files of {n}, examined and followed"),
+        };
+        store.bytes(6, name.as_bytes());
+    }
+    Ok(())
+}
+
+/// Lookups in the tables of loads, and in any tables.
+fn looked_up(store: &mut Store, seed: u64) -> Result<(), Stop> {
+    let generator = Generator { corpus: Vec::new() };
+    let mut left = 10;
+    for index in 0.. {
+        if left == 0 {
+            break;
+        }
+        let (_, file) = generator.file(seed, index);
+        let reading = model::read(&file, [usize::MAX; 9]);
+        let used = reading.rows.used();
+        let lent = Sizes::of_rows(used);
+        // Few rows, and of most tables some.
+        if reading.end.is_err()
+            || lent.0.iter().sum::<usize>() > 160
+            || used.iter().filter(|rows| **rows == 0).count() > 1
+        {
+            continue;
+        }
+        left -= 1;
+        let tables = reading.rows.loaded(&lent).tables;
+        let mut asked = lookups::of_load(&reading.rows);
+        asked.retain(|(lookup, _, offset)| *lookup != Lookup::Line || offset % 5 == 0);
+        lookups_in(store, &file, &tables, asked);
+    }
+    store.bytes(6, b"lookups after loads");
+    let mut left = 24;
+    for index in 0.. {
+        if left == 0 {
+            break;
+        }
+        let (_, file) = generator.file(seed, index);
+        let mut rng = Rng::new(!seed, index);
+        let (file, tables) = lookups::hostile_tables(&file, &mut rng);
+        let words = tables.iter().flatten().count();
+        let asked = lookups::asked(&file, &tables, &mut rng);
+        let (mut kept, refused): (Vec<_>, Vec<_>) = asked
+            .into_iter()
+            .partition(|(l, r, i)| Model.lookup(*l, &file, &tables, *r, *i).refusal == 0);
+        if file.len() > 300 || !(20..=160).contains(&words) || kept.len() < 6 {
+            continue;
+        }
+        left -= 1;
+        kept.extend(&refused[..refused.len().min(8)]);
+        lookups_in(store, &file, &tables, kept);
+    }
+    store.bytes(6, b"lookups in any tables");
+    Ok(())
+}
+
+/// A file, nine tables and lookups in them.
+fn lookups_in(store: &mut Store, file: &[u8], tables: &Tables, asked: Vec<(Lookup, u32, u32)>) {
+    store.bytes(1, file);
+    let lengths = tables.iter().map(|table| table.len() as u32);
+    let words: Vec<u32> = lengths.chain(tables.iter().flatten().copied()).collect();
+    assert!(words.len() <= MOST_WORDS, "more words than a replay has");
+    store.item(4, [&[words.len() as u32], &words[..]].concat());
+    for (lookup, record, index) in asked {
+        let Found { refusal, numbers } = Model.lookup(lookup, file, tables, record, index);
+        let [a, b, c, d, e] = numbers;
+        if lookup == Lookup::Pool {
+            let fields = [record, index, refusal, a as u32, b as u32, c as u32];
+            store.item(10, fields);
+            store.bytes.extend(d.to_le_bytes());
+            store.bytes.extend(e.to_le_bytes());
+        } else {
+            let fields = numbers.map(|number| number as u32);
+            let head = [lookup as u32, record, index, refusal];
+            store.item(9, [&head[..], &fields[..]].concat());
+        }
+    }
 }
 
 /// Every first byte with one byte, one short of its size, its size, and one more.
-fn fetches(store: &mut Store, seed: u64) -> Result<usize, String> {
+fn fetches(store: &mut Store, seed: u64) -> Result<(), String> {
     let mut rng = Rng::new(seed, 1);
     let mut codes = vec![Vec::new()];
     for first in 0..=255u8 {
@@ -221,207 +402,312 @@ fn fetches(store: &mut Store, seed: u64) -> Result<usize, String> {
             kind,
             operands: [a, b, c],
         } = fetch::right(code)?;
-        store.line('C', &bytes_text(code));
-        store.line('R', &numbers([refusal, kind, a, b, c]));
+        store.bytes(1, code);
+        store.item(3, [refusal, kind, a, b, c]);
     }
-    Ok(codes.len())
+    store.bytes(6, b"fetches");
+    Ok(())
 }
 
-fn maps(store: &mut Store, seed: u64) -> usize {
+fn maps(store: &mut Store, seed: u64) {
     let mut rng = Rng::new(seed, 2);
-    let mut stored = 0;
-    for _ in 0..200 {
+    for _ in 0..60 {
         let mut map = lines::map(&mut rng);
-        map.truncate(30);
-        let words: Vec<u32> = map.iter().flat_map(|(p, l)| [*p, *l]).collect();
-        let text = if words.is_empty() {
-            "-".to_owned()
-        } else {
-            numbers(&words)
-        };
-        store.line('M', &text);
+        map.truncate(128);
+        let mut words: Vec<u32> = map.iter().flat_map(|(p, l)| [*p, *l]).collect();
+        if words.len() < 256 && rng.one_in(4) {
+            // An odd word is no row.
+            words.push(rng.word());
+        }
+        store.item(4, [&[words.len() as u32], &words[..]].concat());
         for position in lines::positions(&map, &mut rng) {
             let line = line_at(&map, position);
-            let found = u32::from(line.is_some());
-            store.line('P', &numbers([position, found, line.unwrap_or(0)]));
-            stored += 1;
+            store.item(5, [position, line.is_some().into(), line.unwrap_or(0)]);
         }
     }
-    stored
+    store.bytes(6, b"line lookups");
 }
 
 /// `compare replay`
 pub fn replay(args: &Args) -> Result<(), Stop> {
     args.only(&[]).map_err(Stop::Usage)?;
     for path in &args.paths {
-        let text = fs::read_to_string(path)
-            .map_err(|error| Stop::Usage(format!("{}: {error}", path.display())))?;
+        let bytes =
+            fs::read(path).map_err(|error| Stop::Usage(format!("{}: {error}", path.display())))?;
         for subject in subjects() {
-            let replayed = replay_text(&*subject, &text)
+            let groups = replay_items(&*subject, &bytes)
                 .map_err(|why| Stop::Difference(format!("{}: {why}", subject.name())))?;
-            println!("{}: {replayed} answers, no difference", subject.name());
+            for (name, answers) in groups {
+                println!(
+                    "{}, {name}: {answers} answers, no difference",
+                    subject.name()
+                );
+            }
         }
     }
     Ok(())
 }
 
-/// Replays stored answers with a subject and answers how many there were.
-fn replay_text(subject: &dyn Subject, text: &str) -> Result<usize, String> {
+/// The items left of stored answers.
+struct Items<'a> {
+    left: &'a [u8],
+}
+
+impl<'a> Items<'a> {
+    fn bytes(&mut self, length: usize) -> Result<&'a [u8], String> {
+        let (bytes, left) = self
+            .left
+            .split_at_checked(length)
+            .ok_or("the end is missing")?;
+        self.left = left;
+        Ok(bytes)
+    }
+
+    fn number(&mut self) -> Result<u32, String> {
+        Ok(u32::from_be_bytes(self.bytes(4)?.try_into().unwrap()))
+    }
+
+    /// Eight bytes, low byte first.
+    fn low_first(&mut self) -> Result<u64, String> {
+        Ok(u64::from_le_bytes(self.bytes(8)?.try_into().unwrap()))
+    }
+
+    fn numbers<const N: usize>(&mut self) -> Result<[u32; N], String> {
+        let mut numbers = [0; N];
+        for number in &mut numbers {
+            *number = self.number()?;
+        }
+        Ok(numbers)
+    }
+}
+
+/// Nine tables from their lengths and words.
+fn tables_of(words: &[u32]) -> Result<Tables, String> {
+    let (lengths, mut left) = words
+        .split_at_checked(9)
+        .ok_or("nine lengths are missing")?;
+    let mut tables = Tables::default();
+    for (table, length) in tables.iter_mut().zip(lengths) {
+        let (words, rest) = left
+            .split_at_checked(*length as usize)
+            .ok_or("a table's words are missing")?;
+        table.extend(words);
+        left = rest;
+    }
+    Ok(tables)
+}
+
+/// Replays stored answers with a subject; answers each group's name and number of answers.
+fn replay_items(subject: &dyn Subject, stored: &[u8]) -> Result<Vec<(String, usize)>, String> {
     let mut rng = Rng::new(0, 0);
+    let mut items = Items { left: stored };
+    let mut groups = Vec::new();
     let mut answers = 0;
-    let mut ended = false;
-    let mut file = Vec::new();
-    let mut code = Vec::new();
+    let mut bytes: &[u8] = &[];
     let mut map = Vec::new();
-    let mut loaded = None;
-    for (i, line) in text.split_terminator('\n').enumerate() {
-        let wrong = |why: String| format!("line {}: {why}", i + 1);
-        let (letter, item) = line.split_once(' ').ok_or(wrong("no item".into()))?;
-        let list = || read_numbers(item).map_err(wrong);
-        ended = false;
-        match letter {
-            "#" => {}
-            "F" => file = read_bytes(item).map_err(wrong)?,
-            "L" => {
-                let words: [usize; 9] = read_numbers(item)
-                    .ok()
-                    .and_then(|list| list.try_into().ok())
-                    .map(|list: [u64; 9]| list.map(|n| n as usize))
-                    .ok_or(wrong("no nine numbers".into()))?;
-                let mut tables = garbage(&Sizes(words), &mut rng);
-                let answer = subject.load(&file, &mut tables);
-                loaded = Some((answer, tables));
+    loop {
+        let at = stored.len() - items.left.len();
+        let wrong =
+            |answer: &dyn std::fmt::Debug| Err(format!("byte {at}: the answer is {answer:?}"));
+        let kind = items.number()?;
+        match kind {
+            0 if items.left.is_empty() => return Ok(groups),
+            1 => {
+                let length = items.number()? as usize;
+                bytes = items.bytes(length)?;
             }
-            "A" | "B" => {
-                let Some((Answer { refusal, rows }, _)) = &loaded else {
-                    return Err(wrong("an answer without a load".into()));
+            2 | 7 => {
+                let sizes = Sizes(items.numbers()?.map(|words: u32| words as usize));
+                let refusal = items.number()?;
+                let (rows, stored) = (items.numbers()?, items.number()?);
+                let mut tables = garbage(&sizes, &mut rng);
+                let answer = match kind {
+                    2 => subject.load(bytes, &mut tables),
+                    _ => subject.examine(bytes, &mut tables),
                 };
-                let answer: Vec<u64> = [*refusal].iter().chain(rows).map(|n| (*n).into()).collect();
-                if answer != list()? {
-                    return Err(wrong(format!("the answer is {answer:?}")));
+                let sum = sum(&tables, &[]);
+                if answer != (Answer { refusal, rows }) || sum != stored {
+                    return wrong(&(answer, sum));
                 }
                 answers += 1;
             }
-            "S" => {
-                let Some((_, tables)) = loaded.take() else {
-                    return Err(wrong("sums without a load".into()));
+            3 => {
+                let [refusal, kind, a, b, c] = items.numbers()?;
+                let operands = [a, b, c];
+                let answer = subject.fetch(bytes);
+                if answer
+                    != (Fetch {
+                        refusal,
+                        kind,
+                        operands,
+                    })
+                {
+                    return wrong(&answer);
+                }
+                answers += 1;
+            }
+            4 => {
+                map = Vec::new();
+                for _ in 0..items.number()? {
+                    map.push(items.number()?);
+                }
+            }
+            5 => {
+                let [position, found, line] = items.numbers()?;
+                let answer = subject.line_at(&map, position);
+                if answer != (found == 1).then_some(line) {
+                    return wrong(&answer);
+                }
+                answers += 1;
+            }
+            6 => {
+                let length = items.number()? as usize;
+                let name = String::from_utf8_lossy(items.bytes(length)?).into_owned();
+                groups.push((name, answers));
+                answers = 0;
+            }
+            8 => {
+                let sizes = Sizes(items.numbers()?.map(|words: u32| words as usize));
+                let refusal = items.number()?;
+                let (numbers, stored): ([u32; 9], u32) = (items.numbers()?, items.number()?);
+                let mut frames = vec![1; items.number()? as usize];
+                let length = items.number()? as usize;
+                let choices = items.bytes(length)?;
+                let mut tables = garbage(&sizes, &mut rng);
+                let answer = subject.follow(bytes, &mut tables, &mut frames, choices);
+                let sum = sum(&tables, &frames);
+                if (answer.refusal, nine(&answer), sum) != (refusal, numbers, stored) {
+                    return wrong(&(answer, sum));
+                }
+                answers += 1;
+            }
+            9 | 10 => {
+                let lookup = match kind {
+                    9 => *LOOKUPS
+                        .get(items.number()? as usize)
+                        .ok_or("no such lookup")?,
+                    _ => Lookup::Pool,
                 };
-                let sums: Vec<u64> = tables.iter().map(|table| sum(table)).collect();
-                if sums != list()? {
-                    return Err(wrong(format!("the sums are {sums:?}")));
-                }
-            }
-            "C" => code = read_bytes(item).map_err(wrong)?,
-            "R" => {
-                let answer = subject.fetch(&code);
-                let [a, b, c] = answer.operands;
-                let answer = [answer.refusal, answer.kind, a, b, c].map(u64::from);
-                if answer[..] != list()? {
-                    return Err(wrong(format!("the answer is {answer:?}")));
+                let [record, index, refusal] = items.numbers()?;
+                let numbers = if lookup == Lookup::Pool {
+                    let [kind, place, length] = items.numbers()?.map(|number: u32| number.into());
+                    [kind, place, length, items.low_first()?, items.low_first()?]
+                } else {
+                    items.numbers()?.map(|number: u32| number.into())
+                };
+                let answer = subject.lookup(lookup, bytes, &tables_of(&map)?, record, index);
+                if answer != (Found { refusal, numbers }) {
+                    return wrong(&answer);
                 }
                 answers += 1;
             }
-            "M" if item == "-" => map = Vec::new(),
-            "M" => map = list()?.into_iter().map(|n| n as u32).collect(),
-            "P" => {
-                let list = list()?;
-                let position = *list.first().ok_or(wrong("no position".into()))? as u32;
-                let line = subject.line_at(&map, position);
-                let answer = [position, u32::from(line.is_some()), line.unwrap_or(0)];
-                if answer.map(u64::from)[..] != list {
-                    return Err(wrong(format!("the answer is {answer:?}")));
-                }
-                answers += 1;
-            }
-            "Z" => {
-                if list()? != [i as u64] {
-                    return Err(wrong(format!("{i} lines stand before it")));
-                }
-                ended = true;
-            }
-            _ => return Err(wrong(format!("no item is called {letter}"))),
+            _ => return Err(format!("byte {at}: no item has the kind {kind}")),
         }
     }
-    if !ended {
-        return Err("the last line is missing".to_owned());
-    }
-    Ok(answers)
-}
-
-fn read_numbers(item: &str) -> Result<Vec<u64>, String> {
-    let number = |word: &str| word.parse().map_err(|_| format!("{word} is no number"));
-    item.split(' ').map(number).collect()
-}
-
-fn read_bytes(item: &str) -> Result<Vec<u8>, String> {
-    let mut bytes = Vec::new();
-    if item == "-" {
-        return Ok(bytes);
-    }
-    let mut rest = item;
-    while !rest.is_empty() {
-        if let Some(run) = rest.strip_prefix('*') {
-            let (number, behind) = run.split_once('.').ok_or("a run without its end")?;
-            let number: usize = number.parse().map_err(|_| "a run without a number")?;
-            let byte = *bytes.last().ok_or("a run without a byte")?;
-            bytes.extend(vec![byte; number.saturating_sub(1)]);
-            rest = behind;
-        } else {
-            let digits = rest.get(..2).ok_or("half a byte")?;
-            bytes.push(u8::from_str_radix(digits, 16).map_err(|_| "no hexadecimal digits")?);
-            rest = &rest[2..];
-        }
-    }
-    Ok(bytes)
 }
 
 #[cfg(test)]
 mod tests {
     use super::*;
 
-    #[test]
-    fn bytes_come_back() {
-        for bytes in [
-            &[][..],
-            &[0],
-            &[255, 1, 16],
-            &[7; 8],
-            &[7; 9],
-            &[0; 70_000],
-            &[1, 0, 0, 0, 0, 0, 0, 0, 0, 0, 2],
-        ] {
-            assert_eq!(read_bytes(&bytes_text(bytes)), Ok(bytes.to_vec()));
-        }
-        assert_eq!(read_bytes("61*3."), Ok(b"aaa".to_vec()));
-        assert!(read_bytes("6").is_err());
-        assert!(read_bytes("*3.").is_err());
-        assert!(read_bytes("61*3").is_err());
+    fn tables(words: &[u32]) -> Tables {
+        let mut tables: Tables = Default::default();
+        tables[8] = words.to_vec();
+        tables
     }
 
     #[test]
     fn a_sum_sees_every_word() {
+        let sum = |words: &[u32]| super::sum(&tables(words), &[]);
         assert_eq!(sum(&[]), 0);
         assert_eq!(sum(&[0]), 1);
         assert_eq!(sum(&[0, 0]), 65_600);
         assert_eq!(sum(&[5, 7]), 6 * 65_599 + 8);
         assert_ne!(sum(&[1, 2]), sum(&[2, 1]));
         assert_eq!(sum(&[u32::MAX]), 5);
+        assert_eq!(super::sum(&tables(&[5]), &[7]), sum(&[5, 7]));
     }
 
     #[test]
     fn a_replay_sees_a_wrong_answer() {
-        let text = "F -\nL 0 0 0 0 0 0 0 0 2\nA 2 0 0 0 0 0 0 0 0 0\nS 0 0 0 0 0 0 0 0 65600\n\
-            C 39\nR 24 0 0 0 0\nM 4 12\nP 3 0 0\nP 4 1 12\nZ 9\n";
-        assert_eq!(replay_text(&Model, text), Ok(4));
-        for (from, to) in [
-            ("A 2", "A 3"),
-            ("65600", "65601"),
-            ("R 24", "R 23"),
-            ("P 4 1 12", "P 4 1 13"),
-            ("Z 9", "Z 8"),
-            ("Z 9\n", ""),
-        ] {
-            assert!(replay_text(&Model, &text.replace(from, to)).is_err());
+        let mut store = Store::default();
+        store.bytes(1, &[]);
+        let mut load = [0; 20];
+        load[8] = 2;
+        load[9] = 2;
+        load[19] = 65_600;
+        store.item(2, load);
+        store.bytes(1, &[57]);
+        store.item(3, [24, 0, 0, 0, 0]);
+        store.item(4, [2, 4, 12]);
+        store.item(5, [3, 0, 0]);
+        store.item(5, [4, 1, 12]);
+        store.bytes(6, b"all");
+        store.item(0, []);
+        let bytes = store.bytes;
+        let groups = Ok(vec![("all".to_owned(), 4)]);
+        assert_eq!(replay_items(&Model, &bytes), groups);
+        let [load, fetch, line] = [8, 105, 153];
+        for place in [load, load + 40, load + 80, fetch + 4, line + 12] {
+            let mut changed = bytes.clone();
+            changed[place + 3] ^= 1;
+            assert!(replay_items(&Model, &changed).is_err(), "{place}");
+        }
+        assert!(replay_items(&Model, &bytes[..bytes.len() - 4]).is_err());
+    }
+
+    /// Paper 01's File A: 64 bytes.
+    fn file_a() -> Vec<u8> {
+        let mut file = b"RITE0400\0\0\0\x40\0\0\0\0\0\0\0\0".to_vec();
+        file.extend(b"IREP\0\0\0\x24\0\0\0\0");
+        file.extend([0, 0, 0, 24, 0, 1, 0, 2, 0, 0, 0, 0, 0, 0, 0, 4]);
+        file.extend([17, 1, 61, 1, 0, 0, 0, 0]);
+        file.extend(b"END\0\0\0\0\x08");
+        file
+    }
+
+    #[test]
+    fn a_replay_sees_every_number_of_examination_follow_and_lookup() {
+        let file = file_a();
+        let sizes = Sizes::of_rows([1, 0, 0, 0, 0, 0, 0, 0, 0]);
+        let loaded = model::load(&file, &sizes);
+        let mut store = Store::default();
+        store.bytes(1, &file);
+        let call = store.bytes.len();
+        let end = sum(&loaded.tables, &[]);
+        store.call(7, &sizes, 0, &loaded.rows, end);
+        let run = store.bytes.len();
+        // Go on once: the frame (0, 2).
+        let end = sum(&loaded.tables, &[0, 2]);
+        store.call(8, &sizes, 0, &[0, 0, 2, 0, 0, 1, 0, 0, 0], end);
+        store.bytes.extend([0, 0, 0, 2, 0, 0, 0, 1, 0]);
+        let finished = store.bytes.len();
+        let end = sum(&loaded.tables, &[0, 0]);
+        store.call(8, &sizes, 0, &[1, 0, 0, 0, 0, 0, 0, 0, 0], end);
+        store.bytes.extend([0, 0, 0, 2, 0, 0, 0, 2, 0, 0]);
+        lookups_in(
+            &mut store,
+            &file,
+            &loaded.tables,
+            vec![(Lookup::Instructions, 0, 0), (Lookup::Pool, 0, 0)],
+        );
+        let pool = store.bytes.len() - 44;
+        let looked = pool - 40;
+        store.bytes(6, b"all");
+        store.item(0, []);
+        let bytes = store.bytes;
+        let groups = Ok(vec![("all".to_owned(), 5)]);
+        assert_eq!(replay_items(&Model, &bytes), groups);
+        let answers = [call, run, finished].map(|at| (at + 40, 11));
+        for (at, numbers) in answers
+            .into_iter()
+            .chain([(looked + 16, 6), (pool + 12, 8)])
+        {
+            for number in 0..numbers {
+                let mut changed = bytes.clone();
+                changed[at + 4 * number + 3] ^= 1;
+                assert!(replay_items(&Model, &changed).is_err(), "{at} {number}");
+            }
         }
     }
 }

@@ -1,6 +1,6 @@
 //! What is held against the original: paper 01's model and, where it is linked, the port.
 
-use model::{Entry, NAMES, Refusal, Sizes, Tables};
+use model::{Constant, Entry, FoundText, NAMES, Refusal, Sizes, Tables};
 
 /// The answer of a load: the refusal's number or 0, and the rows used.
 #[derive(Debug, Clone, Copy, PartialEq, Eq)]
@@ -17,12 +17,89 @@ pub struct Fetch {
     pub operands: [u32; 3],
 }
 
+/// The answer of a follow: the refusal's number or 0, then finished, record, offset, found, line and frames.
+#[derive(Debug, Clone, Copy, PartialEq, Eq)]
+pub struct Follow {
+    pub refusal: Refusal,
+    pub numbers: [u32; 6],
+}
+
+/// The seven lookups, in the order of their numbers in stored answers.
+#[derive(Debug, Clone, Copy, PartialEq, Eq)]
+pub enum Lookup {
+    Instructions,
+    Handler,
+    Pool,
+    Symbol,
+    Name,
+    DebugFile,
+    Line,
+}
+
+pub const LOOKUPS: [Lookup; 7] = [
+    Lookup::Instructions,
+    Lookup::Handler,
+    Lookup::Pool,
+    Lookup::Symbol,
+    Lookup::Name,
+    Lookup::DebugFile,
+    Lookup::Line,
+];
+
+/// The answer of a lookup: the refusal's number or 0, then the fields of its struct at the C boundary, zeros behind them.
+/// A whole number stands as its 64 bits, a float as `float_bits` has it.
+#[derive(Debug, Clone, Copy, PartialEq, Eq, Default)]
+pub struct Found {
+    pub refusal: Refusal,
+    pub numbers: [u64; 5],
+}
+
+impl Found {
+    fn of<const N: usize>(fields: [u32; N]) -> Found {
+        let mut found = Found::default();
+        for (number, field) in found.numbers.iter_mut().zip(fields) {
+            *number = field.into();
+        }
+        found
+    }
+}
+
+/// The bits of a float, of one NaN for all.
+pub fn float_bits(float: f64) -> u64 {
+    if float.is_nan() {
+        return f64::NAN.to_bits();
+    }
+    float.to_bits()
+}
+
 /// A loader under test.
 pub trait Subject {
     fn name(&self) -> &'static str;
 
     /// Loads over lent tables, whose words hold anything before the call.
     fn load(&self, file: &[u8], tables: &mut Tables) -> Answer;
+
+    /// Examines over lent tables, as a load does.
+    fn examine(&self, file: &[u8], tables: &mut Tables) -> Answer;
+
+    /// Follows choices over lent tables and a frame table.
+    fn follow(
+        &self,
+        file: &[u8],
+        tables: &mut Tables,
+        frames: &mut Vec<u32>,
+        choices: &[u8],
+    ) -> Follow;
+
+    /// Looks up a record's row by an index or offset, which instructions have none of.
+    fn lookup(
+        &self,
+        lookup: Lookup,
+        file: &[u8],
+        tables: &Tables,
+        record: u32,
+        index: u32,
+    ) -> Found;
 
     /// The instruction at the first byte.
     fn fetch(&self, code: &[u8]) -> Fetch;
@@ -40,13 +117,83 @@ impl Subject for Model {
     }
 
     fn load(&self, file: &[u8], tables: &mut Tables) -> Answer {
-        let lent = Sizes(std::array::from_fn(|t| tables[t].len()));
-        let loaded = model::load(file, &lent);
+        let loaded = model::load(file, &lent(tables));
         *tables = loaded.tables;
         Answer {
             refusal: loaded.refusal,
             rows: loaded.rows,
         }
+    }
+
+    fn examine(&self, file: &[u8], tables: &mut Tables) -> Answer {
+        let loaded = model::examine(file, &lent(tables));
+        *tables = loaded.tables;
+        Answer {
+            refusal: loaded.refusal,
+            rows: loaded.rows,
+        }
+    }
+
+    fn follow(
+        &self,
+        file: &[u8],
+        tables: &mut Tables,
+        frames: &mut Vec<u32>,
+        choices: &[u8],
+    ) -> Follow {
+        let followed = model::follow(file, &lent(tables), frames.len(), choices);
+        *tables = followed.loaded.tables;
+        *frames = followed.frame_table;
+        let (record, offset) = followed.top.unwrap_or_default();
+        Follow {
+            refusal: followed.loaded.refusal,
+            numbers: [
+                followed.finished.into(),
+                record,
+                offset,
+                followed.line.is_some().into(),
+                followed.line.unwrap_or(0),
+                followed.frames,
+            ],
+        }
+    }
+
+    fn lookup(
+        &self,
+        lookup: Lookup,
+        file: &[u8],
+        tables: &Tables,
+        record: u32,
+        index: u32,
+    ) -> Found {
+        let text = |found: FoundText| [found.place, found.length];
+        let found = match lookup {
+            Lookup::Instructions => {
+                model::instructions(file, tables, record).map(|found| Found::of(text(found)))
+            }
+            Lookup::Handler => model::handler(tables, record, index)
+                .map(|found| Found::of([found.kind, found.begin, found.end, found.target])),
+            Lookup::Pool => model::pool(file, tables, record, index).map(constant),
+            Lookup::Symbol => {
+                model::symbol(file, tables, record, index).map(|found| Found::of(text(found)))
+            }
+            Lookup::Name => {
+                model::name(file, tables, record, index).map(|found| match found.map(text) {
+                    Some([place, length]) => Found::of([1, place, length]),
+                    None => Found::default(),
+                })
+            }
+            Lookup::DebugFile => model::debug_file(file, tables, record, index).map(|found| {
+                let [place, length] = text(found.name);
+                Found::of([found.start, place, length, found.first, found.number])
+            }),
+            Lookup::Line => model::line(tables, record, index)
+                .map(|found| Found::of([found.is_some().into(), found.unwrap_or(0)])),
+        };
+        found.unwrap_or_else(|refusal| Found {
+            refusal,
+            numbers: [0; 5],
+        })
     }
 
     fn fetch(&self, code: &[u8]) -> Fetch {
@@ -73,6 +220,28 @@ impl Subject for Model {
             })
             .collect();
         model::line_at(&map, position)
+    }
+}
+
+/// How many words each table has.
+fn lent(tables: &Tables) -> Sizes {
+    Sizes(std::array::from_fn(|t| tables[t].len()))
+}
+
+/// The fields of a constant: kind, place, length, whole number, float.
+fn constant(constant: Constant) -> Found {
+    let text = |kind, text: FoundText| Found::of([kind, text.place, text.length]);
+    match constant {
+        Constant::Text(found) => text(0, found),
+        Constant::Int(integer) => Found {
+            refusal: 0,
+            numbers: [1, 0, 0, integer as u64, 0],
+        },
+        Constant::Float(float) => Found {
+            refusal: 0,
+            numbers: [2, 0, 0, 0, float_bits(float)],
+        },
+        Constant::Big(found) => text(3, found),
     }
 }
 

@@ -1,0 +1,179 @@
+//! Times of load, examine and follow beside those of the original's load, on the same files in one run.
+//!
+//! Every figure is a median over rounds in which all calls take turns, so that other work on the machine meets all alike.
+
+#![forbid(unsafe_code)]
+
+mod hostile;
+mod ladder;
+mod timing;
+
+use blotheath::tables::Words;
+use std::path::{Path, PathBuf};
+use std::time::Duration;
+use std::{env, fs};
+use timing::{Subject, medians};
+
+fn main() {
+    println!("# Times of load, examine and follow\n");
+    if !blotheath::PROVED {
+        println!("These are times of the model, not of the archive.\n");
+    }
+    let rounds = env::args().nth(1).and_then(|word| word.parse().ok());
+    let rounds = rounds.unwrap_or(201);
+    real_files(rounds);
+    ladder_of_sizes(rounds);
+    hostile_files();
+}
+
+/// The files of the corpus that the original loads, or the sample where there is no corpus.
+fn real() -> Vec<Vec<u8>> {
+    let here = Path::new(env!("CARGO_MANIFEST_DIR"));
+    let folder = match env::var_os("BLOTHEATH_CORPUS") {
+        Some(folder) => PathBuf::from(folder),
+        None => here.join("../../../shared/corpus"),
+    };
+    let folder = if folder.is_dir() {
+        folder
+    } else {
+        here.join("../samples")
+    };
+    let mut paths: Vec<PathBuf> = fs::read_dir(folder)
+        .into_iter()
+        .flatten()
+        .filter_map(|entry| Some(entry.ok()?.path()))
+        .filter(|path| path.extension().is_some_and(|end| end == "mrb"))
+        .collect();
+    paths.sort();
+    let files = paths.iter().filter_map(|path| fs::read(path).ok());
+    files
+        .filter(|file| blotheath::examine(file).is_ok())
+        .collect()
+}
+
+fn real_files(rounds: usize) {
+    let files = real();
+    let bytes: usize = files.iter().map(Vec::len).sum();
+    println!("## Real files\n");
+    println!(
+        "{} files that pass, {bytes} bytes, one behind the other; {rounds} rounds.\n",
+        files.len()
+    );
+    table(&files, rounds);
+}
+
+fn ladder_of_sizes(rounds: usize) {
+    println!("## A ladder of sizes\n");
+    for kibibytes in [1, 4, 16, 64] {
+        let file = ladder::pattern(kibibytes * 1024);
+        assert!(
+            blotheath::examine(&file).is_ok(),
+            "the built pattern passes"
+        );
+        println!("{} bytes; {rounds} rounds.\n", file.len());
+        table(&[file], rounds);
+    }
+}
+
+/// The choices that follow is timed with.
+const CHOICES: [u8; 16] = [0, 0, 2, 0, 0, 0, 1, 0, 0, 2, 0, 0, 0, 0, 4, 0];
+
+/// Prints the medians of all calls over some files.
+fn table(files: &[Vec<u8>], rounds: usize) {
+    let mut lent: Vec<Words> = files
+        .iter()
+        .map(|file| blotheath::tables::zeros(file.len(), 1))
+        .collect();
+    let mut again = lent.clone();
+    let mut examined = lent.clone();
+    let mut followed = lent.clone();
+    let mut frames = vec![0; 2 * blotheath::tables::RECORD_LIMIT];
+    let mut load_original = || {
+        for file in files {
+            timing::keep(original::rite::rite::load(file).is_ok());
+        }
+    };
+    let mut load_new = || {
+        for file in files {
+            let mut words = blotheath::tables::zeros(file.len(), 1);
+            timing::keep(blotheath::ffi::load(file, &mut words));
+        }
+    };
+    let mut load_cleared = || {
+        for (file, words) in files.iter().zip(&mut lent) {
+            words.iter_mut().for_each(|table| table.fill(0));
+            timing::keep(blotheath::ffi::load(file, words));
+        }
+    };
+    let mut load_again = || {
+        for (file, words) in files.iter().zip(&mut again) {
+            timing::keep(blotheath::ffi::load(file, words));
+        }
+    };
+    let mut examine = || {
+        for (file, words) in files.iter().zip(&mut examined) {
+            timing::keep(blotheath::ffi::examine(file, words));
+        }
+    };
+    let mut follow = || {
+        for (file, words) in files.iter().zip(&mut followed) {
+            timing::keep(blotheath::ffi::follow(file, words, &mut frames, &CHOICES));
+        }
+    };
+    let mut subjects: Vec<Subject> = vec![
+        ("original's load", &mut load_original),
+        ("load, the same tables again", &mut load_again),
+        ("load, tables cleared first", &mut load_cleared),
+        ("load, tables made anew", &mut load_new),
+        ("examine", &mut examine),
+        ("follow, 16 bytes of choices", &mut follow),
+    ];
+    let times = medians(&mut subjects, rounds);
+    println!("| call | microseconds | times the original's speed |\n|---|---|---|");
+    for ((name, _), time) in subjects.iter().zip(&times) {
+        let ratio = times[0].as_secs_f64() / time.as_secs_f64();
+        println!("| {name} | {:.1} | {ratio:.2} |", micros(*time));
+    }
+    println!();
+}
+
+fn micros(time: Duration) -> f64 {
+    time.as_secs_f64() * 1e6
+}
+
+/// Times the worst files, with the tables that the host lends for them.
+fn hostile_files() {
+    println!("## Hostile files\n");
+    println!(
+        "At most 65,536 bytes each, with the tables that the host lends, more of them after 14; medians of five, the original once.\n"
+    );
+    println!(
+        "| file | bytes | answer | load | examine | follow | original's load |\n|---|---|---|---|---|---|---|"
+    );
+    for (name, file) in hostile::files() {
+        let mut load = || timing::keep(blotheath::load(&file).is_ok());
+        let mut examine = || timing::keep(blotheath::examine(&file).is_ok());
+        let mut follow = || timing::keep(blotheath::follow(&file, &CHOICES).is_ok());
+        let mut subjects: Vec<Subject> = vec![
+            ("load", &mut load),
+            ("examine", &mut examine),
+            ("follow", &mut follow),
+        ];
+        let times = medians(&mut subjects, 5);
+        let answer = match blotheath::examine(&file) {
+            Ok(_) => "passes".to_owned(),
+            Err(refusal) => refusal.number().to_string(),
+        };
+        let mut load_original = || timing::keep(original::rite::rite::load(&file).is_ok());
+        let original = timing::once(&mut load_original);
+        let shown = |time: Duration| format!("{:.1} ms", time.as_secs_f64() * 1e3);
+        println!(
+            "| {name} | {} | {answer} | {} | {} | {} | {} |",
+            file.len(),
+            shown(times[0]),
+            shown(times[1]),
+            shown(times[2]),
+            shown(original)
+        );
+    }
+}

@@ -1,0 +1,92 @@
+//! Reading of files and walking of folders.
+
+use blotheath::FILE_LIMIT;
+use std::fs::{self, File};
+use std::io::{self, Read};
+use std::path::{Path, PathBuf};
+
+/// The bytes of a file, up to one byte past the limit; `-` is standard input.
+pub fn read(path: &Path) -> io::Result<Vec<u8>> {
+    if path == Path::new("-") {
+        return read_some(io::stdin().lock());
+    }
+    let file = File::open(path)?;
+    if file.metadata()?.is_dir() {
+        return Err(io::Error::other("this is a folder"));
+    }
+    read_some(file)
+}
+
+fn read_some(source: impl Read) -> io::Result<Vec<u8>> {
+    let mut bytes = Vec::new();
+    source.take(FILE_LIMIT as u64 + 1).read_to_end(&mut bytes)?;
+    Ok(bytes)
+}
+
+/// Something to examine, or why it cannot be read.
+pub struct Found {
+    pub path: PathBuf,
+    pub fault: Option<io::Error>,
+}
+
+impl Found {
+    fn fault(path: &Path, fault: io::Error) -> Found {
+        Found {
+            path: path.to_owned(),
+            fault: Some(fault),
+        }
+    }
+}
+
+/// The files that the paths name; folders are walked for files that end in .mrb.
+pub fn find(paths: &[PathBuf]) -> Vec<Found> {
+    let mut found = Vec::new();
+    for path in paths {
+        if path.is_dir() {
+            walk(path, &mut found);
+        } else {
+            found.push(Found {
+                path: path.clone(),
+                fault: None,
+            });
+        }
+    }
+    found
+}
+
+/// Walks a folder in the order of names; links to folders are not followed.
+fn walk(folder: &Path, found: &mut Vec<Found>) {
+    let before = found.len();
+    let mut folders = vec![folder.to_owned()];
+    while let Some(folder) = folders.pop() {
+        let mut inner = match list(&folder, found) {
+            Ok(inner) => inner,
+            Err(fault) => {
+                found.push(Found::fault(&folder, fault));
+                continue;
+            }
+        };
+        inner.reverse();
+        folders.append(&mut inner);
+    }
+    if found.len() == before {
+        let fault = io::Error::other("no file in this folder ends in .mrb");
+        found.push(Found::fault(folder, fault));
+    }
+}
+
+/// Adds the patterns of one folder and answers the folders in it.
+fn list(folder: &Path, found: &mut Vec<Found>) -> io::Result<Vec<PathBuf>> {
+    let mut entries = fs::read_dir(folder)?.collect::<io::Result<Vec<_>>>()?;
+    entries.sort_by_key(|entry| entry.file_name());
+    let mut folders = Vec::new();
+    for entry in entries {
+        let path = entry.path();
+        if entry.file_type()?.is_dir() {
+            folders.push(path);
+        } else if path.extension().is_some_and(|end| end == "mrb") && path.is_file() {
+            found.push(Found { path, fault: None });
+        }
+    }
+    Ok(folders)
+}

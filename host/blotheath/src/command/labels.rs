@@ -1,0 +1,72 @@
+//! Words for records: what the step that names a record makes of it.
+
+use super::MOST_SHOWN;
+use super::text;
+use blotheath::{Pattern, Step, Tree, opcode_name};
+
+/// The words for each record.
+pub fn labels(pattern: &Pattern, tree: &Tree) -> Vec<String> {
+    let mut labels = vec![String::new(); tree.nodes.len()];
+    if let Some(first) = labels.first_mut() {
+        *first = "main".to_owned();
+    }
+    let mut left = MOST_SHOWN as usize;
+    for number in 0..tree.nodes.len() as u32 {
+        let Ok(steps) = pattern.steps(number) else {
+            continue;
+        };
+        let mut before: Option<Step> = None;
+        for step in steps.flatten().take(left) {
+            left -= 1;
+            label(pattern, tree, number, before, step, &mut labels);
+            before = Some(step);
+        }
+    }
+    labels
+}
+
+/// Takes from a step, and the one before it, what they say of a child.
+fn label(
+    pattern: &Pattern,
+    tree: &Tree,
+    number: u32,
+    before: Option<Step>,
+    step: Step,
+    labels: &mut [String],
+) {
+    let name = opcode_name(step.opcode).unwrap_or_default();
+    let symbol = |step: Step| match pattern.symbol(number, step.operands[1]) {
+        Ok(symbol) => text::plain(symbol.bytes, 24),
+        Err(_) => String::new(),
+    };
+    let (maker, words) = match name {
+        "BLOCK" => (step, "block".to_owned()),
+        "LAMBDA" => (step, "lambda".to_owned()),
+        "METHOD" => (step, "method".to_owned()),
+        "EXEC" => (step, body(before, symbol)),
+        "DEF" => match before {
+            Some(before) if opcode_name(before.opcode) == Some("METHOD") => {
+                (before, format!("method {}", symbol(step)))
+            }
+            _ => return,
+        },
+        _ => return,
+    };
+    let child = tree.child(number, maker.operands[1]);
+    if let Some(label) = child.and_then(|child| labels.get_mut(child as usize)) {
+        *label = words;
+    }
+}
+
+/// What EXEC runs, by the step before it.
+fn body(before: Option<Step>, symbol: impl Fn(Step) -> String) -> String {
+    let Some(before) = before else {
+        return "body".to_owned();
+    };
+    match opcode_name(before.opcode) {
+        Some("CLASS") => format!("class {}", symbol(before)),
+        Some("MODULE") => format!("module {}", symbol(before)),
+        Some("SCLASS") => "singleton class".to_owned(),
+        _ => "body".to_owned(),
+    }
+}

@@ -1,0 +1,85 @@
+//! The commands and what they share.
+
+mod args;
+mod arrows;
+mod examine;
+mod follow;
+mod help;
+mod input;
+mod json;
+mod labels;
+mod load;
+mod meaning;
+mod report;
+mod sha256;
+mod steps;
+mod style;
+mod text;
+mod verdict;
+
+use args::Command;
+use std::ffi::OsString;
+use std::io::{self, BufWriter, Write};
+use style::Style;
+
+/// The exit status; of several the largest counts.
+#[derive(Debug, Clone, Copy, PartialEq, Eq, PartialOrd, Ord)]
+pub enum Status {
+    Passed = 0,
+    Refused = 1,
+    /// Wrong usage, or a file that cannot be read or written.
+    Unusable = 2,
+}
+
+/// The most steps or rows of one table that are shown without `--all`: a file whose records do not overlap has no more.
+pub const MOST_SHOWN: u64 = 65_536;
+
+/// Runs the command that the words say.
+pub fn run(words: &[OsString]) -> io::Result<Status> {
+    let command = match args::read(words) {
+        Ok(command) => command,
+        Err(fault) => {
+            complain(&fault);
+            tell("`blotheath --help` says how it is used.\n");
+            return Ok(Status::Unusable);
+        }
+    };
+    let mut out = BufWriter::new(io::stdout().lock());
+    let style = Style::of_output();
+    let status = match command {
+        Command::Help(topic) => help::write(&mut out, topic.as_deref()),
+        Command::Version => help::write_version(&mut out),
+        Command::Examine { paths, json } => examine::run(&mut out, style, &paths, json),
+        Command::Load { path, json, all } => load::run(&mut out, style, &path, json, all),
+        Command::Steps { path, json, all } => steps::run(&mut out, style, &path, json, all),
+        Command::Follow {
+            path,
+            choices,
+            json,
+            each,
+        } => follow::run(&mut out, style, &path, &choices, json, each),
+        Command::Report {
+            path,
+            output,
+            source,
+        } => report::run(&mut out, &path, output.as_deref(), source.as_deref()),
+    }?;
+    out.flush()?;
+    Ok(status)
+}
+
+/// Writes to standard error; where that is closed, nobody is told.
+pub fn tell(text: &str) {
+    let _ = io::stderr().write_all(text.as_bytes());
+}
+
+/// Tells what is wrong.
+pub fn complain(fault: &str) {
+    tell(&format!("blotheath: {fault}\n"));
+}
+
+/// Tells why a file cannot be used.
+pub fn unusable(name: &str, fault: &io::Error) -> Status {
+    complain(&format!("{name}: {fault}"));
+    Status::Unusable
+}

@@ -1,0 +1,144 @@
+//! The verdict on a file, and where a refusal lies.
+
+use super::json::Json;
+use super::text::{counted, escaped};
+use blotheath::{Counts, Pattern, Place, Refusal, examine, load, locate};
+use std::io;
+
+/// What examination says of a file.
+pub enum Verdict<'a> {
+    Passes(Pattern<'a>),
+    Refused {
+        refusal: Refusal,
+        place: Option<Place>,
+        /// The pattern, where the file loads all the same.
+        pattern: Option<Pattern<'a>>,
+    },
+}
+
+/// Examines a file and searches where a refusal lies.
+pub fn judge(file: &[u8]) -> Verdict<'_> {
+    let refusal = match examine(file) {
+        Ok(pattern) => return Verdict::Passes(pattern),
+        Err(refusal) => refusal,
+    };
+    let pattern = match refusal.is_of_examination() {
+        true => load(file).ok(),
+        false => None,
+    };
+    let place = pattern
+        .as_ref()
+        .and_then(|pattern| locate(pattern, refusal));
+    Verdict::Refused {
+        refusal,
+        place,
+        pattern,
+    }
+}
+
+impl<'a> Verdict<'a> {
+    pub fn passes(&self) -> bool {
+        matches!(self, Verdict::Passes(_))
+    }
+
+    /// The pattern, where the file loads.
+    pub fn pattern(&self) -> Option<&Pattern<'a>> {
+        match self {
+            Verdict::Passes(pattern) => Some(pattern),
+            Verdict::Refused { pattern, .. } => pattern.as_ref(),
+        }
+    }
+
+    /// The verdict in one line.
+    pub fn sentence(&self) -> String {
+        match self {
+            Verdict::Passes(pattern) => format!("passes: {}", counts(pattern.counts())),
+            Verdict::Refused { refusal, place, .. } => match place {
+                Some(place) => format!("{refusal} ({})", told(place)),
+                None => refusal.to_string(),
+            },
+        }
+    }
+
+    /// The verdict as members of a JSON object.
+    pub fn members(&self, json: &mut Json) -> io::Result<()> {
+        json.key("passes")?.boolean(self.passes())?;
+        match self {
+            Verdict::Passes(pattern) => json
+                .key("rows")?
+                .object(|json| count_members(json, pattern.counts())),
+            Verdict::Refused { refusal, place, .. } => {
+                json.key("refusal")?.number(refusal.number())?;
+                json.key("sentence")?.string(refusal.sentence())?;
+                match place {
+                    Some(place) => json.key("place")?.object(|json| place_members(json, place)),
+                    None => Ok(()),
+                }
+            }
+        }
+    }
+}
+
+/// The counts that a reader asks for first.
+fn counts(counts: Counts) -> String {
+    [
+        counted(counts.records.into(), "record"),
+        counted(counts.constants.into(), "constant"),
+        counted(counts.names.into(), "name"),
+        counted(counts.lines.into(), "line"),
+    ]
+    .join(", ")
+}
+
+/// A place in words.
+pub fn told(place: &Place) -> String {
+    let mut parts = Vec::new();
+    if let Some(record) = place.record {
+        parts.push(format!("record {record}"));
+    }
+    if let Some(offset) = place.offset {
+        parts.push(format!("offset {offset}"));
+    }
+    if let Some(line) = place.line {
+        parts.push(format!("line {line}"));
+    }
+    let what = escaped(place.what.as_bytes());
+    match parts.is_empty() {
+        true => what,
+        false => format!("{}: {what}", parts.join(", ")),
+    }
+}
+
+/// How many rows each table uses, as members.
+pub fn count_members(json: &mut Json, counts: Counts) -> io::Result<()> {
+    for (name, number) in named(counts) {
+        json.key(name)?.number(number)?;
+    }
+    Ok(())
+}
+
+/// The counts with their names.
+pub fn named(counts: Counts) -> [(&'static str, u32); 9] {
+    [
+        ("records", counts.records),
+        ("handlers", counts.handlers),
+        ("constants", counts.constants),
+        ("symbols", counts.symbols),
+        ("strings", counts.strings),
+        ("names", counts.names),
+        ("file_names", counts.file_names),
+        ("files", counts.files),
+        ("lines", counts.lines),
+    ]
+}
+
+fn place_members(json: &mut Json, place: &Place) -> io::Result<()> {
+    for (name, number) in [
+        ("record", place.record),
+        ("offset", place.offset),
+        ("line", place.line),
+    ] {
+        json.key(name)?.optional(number)?;
+    }
+    json.key("what")?.string(&place.what)
+}

@@ -1,0 +1,35 @@
+//! Blotheath for Rust programs: load, examine and follow `.mrb` pattern files, and look up what they hold.
+//!
+//! The answers are those of the proved archive libblotheath.a; [`PROVED`] says whether this build has it.
+
+#![deny(unsafe_code)]
+
+pub mod answer;
+#[cfg(not(feature = "model"))]
+pub mod ffi;
+#[cfg(feature = "model")]
+#[path = "by_model.rs"]
+pub mod ffi;
+mod follow;
+mod locate;
+mod opcode;
+mod pattern;
+mod refusal;
+mod step;
+pub mod tables;
+mod tree;
+
+pub use ffi::PROVED;
+pub use follow::{Choice, Frame, Standing, bytes_of, follow};
+pub use locate::{Place, locate};
+pub use opcode::{Flow, Role, flow, name as opcode_name, roles};
+pub use pattern::{
+    Constant, Counts, DebugFile, Entry, Handler, Pattern, Record, Sources, Span, Text, examine,
+    line_at, load,
+};
+pub use refusal::Refusal;
+pub use step::{BadStep, Kind, Step, Steps};
+pub use tree::{Node, Tree};
+
+/// The longest file, in bytes.
+pub const FILE_LIMIT: usize = 65_536;

@@ -1,0 +1,203 @@
+//! Where a refusal of examination lies: a search over the loaded rows, in examination's order.
+//!
+//! The verdict is never taken from here. The search answers a place only where it meets the very number of the verdict.
+
+use crate::opcode::{Flow, Role, flow, roles};
+use crate::pattern::{Pattern, Record};
+use crate::refusal::Refusal;
+use crate::step::Step;
+
+/// Where a refusal lies.
+#[derive(Debug, Clone, PartialEq, Eq)]
+pub struct Place {
+    pub record: Option<u32>,
+    pub offset: Option<u32>,
+    pub line: Option<u32>,
+    /// What stands there.
+    pub what: String,
+}
+
+/// The place of a refusal by 15 to 20 in a file that loads.
+pub fn locate(pattern: &Pattern, refusal: Refusal) -> Option<Place> {
+    if !refusal.is_of_examination() {
+        return None;
+    }
+    let (number, place) = search(pattern)?;
+    (number == refusal.number()).then_some(place)
+}
+
+/// The first refusal that examination meets, and where.
+fn search(pattern: &Pattern) -> Option<(u32, Place)> {
+    if let Some(what) = broken_tree(pattern) {
+        let place = Place {
+            record: None,
+            offset: None,
+            line: None,
+            what,
+        };
+        return Some((15, place));
+    }
+    let mut begins = Begins::default();
+    for (number, record) in pattern.records().enumerate() {
+        let number = number as u32;
+        if let Some(found) = search_record(pattern, number, &record, &mut begins) {
+            let offset = found.offset;
+            let place = Place {
+                record: Some(number),
+                offset,
+                line: offset.and_then(|offset| pattern.line(number, offset).ok()?),
+                what: found.what,
+            };
+            return Some((found.refusal, place));
+        }
+    }
+    None
+}
+
+/// Why the records do not form one whole tree.
+fn broken_tree(pattern: &Pattern) -> Option<String> {
+    let count = u64::from(pattern.counts().records);
+    if count == 0 {
+        return Some("there is no record".to_owned());
+    }
+    let sum: u64 = pattern.records().map(|record| u64::from(record.rlen)).sum();
+    if sum + 1 != count {
+        return Some(format!(
+            "{count} records have {sum} children in all, and {} are needed",
+            count - 1
+        ));
+    }
+    let mut first = 0;
+    for (index, record) in pattern.records().enumerate() {
+        first += u64::from(record.rlen);
+        let read = index as u64 + 1;
+        if read < count && first < read {
+            return Some(format!("the tree ends behind record {index}"));
+        }
+    }
+    None
+}
+
+/// What a record's search finds.
+struct Found {
+    refusal: u32,
+    offset: Option<u32>,
+    what: String,
+}
+
+impl Found {
+    fn at(refusal: u32, offset: u32, what: String) -> Option<Found> {
+        Some(Found {
+            refusal,
+            offset: Some(offset),
+            what,
+        })
+    }
+}
+
+/// The offsets of a record at which instructions begin.
+#[derive(Default)]
+struct Begins(Vec<bool>);
+
+impl Begins {
+    fn clear(&mut self, length: usize) {
+        self.0.clear();
+        self.0.resize(length, false);
+    }
+
+    fn mark(&mut self, offset: u32) {
+        if let Some(flag) = self.0.get_mut(offset as usize) {
+            *flag = true;
+        }
+    }
+
+    fn at(&self, offset: i64) -> bool {
+        let index = usize::try_from(offset).ok();
+        index.is_some_and(|index| self.0.get(index) == Some(&true))
+    }
+}
+
+fn search_record(
+    pattern: &Pattern,
+    number: u32,
+    record: &Record,
+    begins: &mut Begins,
+) -> Option<Found> {
+    let code = pattern.instructions(number).ok()?.bytes;
+    if code.is_empty() {
+        return Found::at(16, 0, "the record has no instructions".to_owned());
+    }
+    begins.clear(code.len());
+    for step in pattern.steps(number).ok()? {
+        match step {
+            Ok(step) => begins.mark(step.offset),
+            Err(bad) => return Found::at(16, bad.offset(), bad.to_string()),
+        }
+    }
+    let steps = pattern.steps(number).ok()?.flatten();
+    for step in steps {
+        if let Some(found) = search_step(record, &step, begins) {
+            return Some(found);
+        }
+    }
+    search_handlers(pattern, number, record, begins).or_else(|| search_lines(pattern, record))
+}
+
+fn search_step(record: &Record, step: &Step, begins: &Begins) -> Option<Found> {
+    for (operand, role) in step.given().iter().zip(roles(step.opcode)) {
+        let (bound, thing) = match role {
+            Role::Plain => continue,
+            Role::Register => (record.nregs, "register"),
+            Role::Constant => (record.constants.number, "constant"),
+            Role::Symbol => (record.symbols.number, "symbol"),
+            Role::Child => (record.rlen, "child"),
+        };
+        if *operand >= bound {
+            let what = format!("{thing} {operand} is named, and the record has {bound}");
+            return Found::at(17, step.offset, what);
+        }
+    }
+    if let Some(target) = step.target().filter(|target| !begins.at(*target)) {
+        return Found::at(18, step.offset, format!("the jump goes to {target}"));
+    }
+    let goes_on = matches!(flow(step.opcode), Flow::Next | Flow::MayJump);
+    if goes_on && !begins.at(step.next.into()) {
+        let what = "the last instruction goes on behind the record's end".to_owned();
+        return Found::at(18, step.offset, what);
+    }
+    None
+}
+
+fn search_handlers(
+    pattern: &Pattern,
+    number: u32,
+    record: &Record,
+    begins: &Begins,
+) -> Option<Found> {
+    for index in 0..record.clen {
+        let target = pattern.handler(number, index).ok()?.target;
+        if !begins.at(target.into()) {
+            return Some(Found {
+                refusal: 19,
+                offset: None,
+                what: format!("handler {index} goes to {target}"),
+            });
+        }
+    }
+    None
+}
+
+fn search_lines(pattern: &Pattern, record: &Record) -> Option<Found> {
+    for index in 1..record.lines.number {
+        let before = pattern.entry(record.lines.first + index - 1)?.position;
+        let position = pattern.entry(record.lines.first + index)?.position;
+        if position < before {
+            return Some(Found {
+                refusal: 20,
+                offset: None,
+                what: format!("position {position} comes behind {before} in the line map"),
+            });
+        }
+    }
+    None
+}

@@ -1,0 +1,156 @@
+//! Files built for tests, hostile ones among them.
+
+/// A file header and these sections.
+pub fn file(sections: &[Vec<u8>]) -> Vec<u8> {
+    [b"RITE0400".to_vec(), vec![0; 12], sections.concat()].concat()
+}
+
+pub fn section(mark: &[u8; 4], content: &[u8]) -> Vec<u8> {
+    let size = 8 + content.len() as u32;
+    [&mark[..], &size.to_be_bytes(), content].concat()
+}
+
+pub fn irep(content: &[u8]) -> Vec<u8> {
+    section(b"IREP", &[&[0; 4], content].concat())
+}
+
+/// The header of a record without handlers.
+pub fn head(size: u32, nlocals: u16, nregs: u16, rlen: u16, ilen: u32) -> Vec<u8> {
+    let mut head = size.to_be_bytes().to_vec();
+    for field in [nlocals, nregs, rlen, 0] {
+        head.extend(field.to_be_bytes());
+    }
+    head.extend(ilen.to_be_bytes());
+    head
+}
+
+/// A record of this code, with constants and symbols as bytes behind their counts.
+pub fn record(rlen: u16, code: &[u8], constants: &[&[u8]], symbols: &[&[u8]]) -> Vec<u8> {
+    let mut rest = code.to_vec();
+    rest.extend((constants.len() as u16).to_be_bytes());
+    rest.extend(constants.concat());
+    rest.extend((symbols.len() as u16).to_be_bytes());
+    for symbol in symbols {
+        rest.extend((symbol.len() as u16).to_be_bytes());
+        rest.extend(*symbol);
+        rest.push(0);
+    }
+    let size = 16 + rest.len() as u32;
+    [head(size, 1, 8, rlen, code.len() as u32), rest].concat()
+}
+
+/// A file of one record.
+pub fn one(code: &[u8], constants: &[&[u8]], symbols: &[&[u8]]) -> Vec<u8> {
+    file(&[irep(&record(0, code, constants, symbols))])
+}
+
+/// The distance between records that share code: a size that is also the opcode LOADNIL.
+const STRIDE: usize = 17;
+
+/// A size past every file's end, which ends the records; its bytes are LOADNIL and two NOPs.
+const LAST_SIZE: u32 = 0x1100_0000;
+
+const RECORDS: usize = 1_024;
+
+/// How many records share their code, and the bytes of it: fewer for the model, which is slow.
+///
+/// The high byte of the length is also the opcode LOADNIL or TCLASS.
+pub const CODE: (usize, usize) = if cfg!(feature = "model") {
+    (200, 0x1100)
+} else {
+    (RECORDS, 0x7000)
+};
+
+/// A file of records in a chain that share their code. It passes where the register is below 17.
+///
+/// The code of each record begins with the headers of those behind it, whose bytes are harmless instructions.
+pub fn shared_code(last_register: u8) -> Vec<u8> {
+    let (records, length) = CODE;
+    let mut content = Vec::new();
+    let mut end = 0;
+    for number in 0..records {
+        let start = number * STRIDE + 16;
+        // The code ends behind a STOP of the tail, where four zeros are no constants and no symbols.
+        end = start + length;
+        while (end - records * STRIDE) % 5 != 1 {
+            end += 1;
+        }
+        let is_last = number + 1 == records;
+        let size = if is_last { LAST_SIZE } else { STRIDE as u32 };
+        let rlen = if is_last { 0 } else { 1 };
+        content.extend(head(size, 0, 17, rlen, (end - start) as u32));
+        content.push(0);
+    }
+    content.extend([118, 0, 0, 0, 0].repeat(length / 5 + 4));
+    // An instruction that the last record alone has.
+    content[end - 3..end - 1].copy_from_slice(&[17, last_register]);
+    file(&[irep(&content)])
+}
+
+/// A file whose 1,024 records share so many constants of three bytes.
+pub fn shared_constants(constants: usize) -> Vec<u8> {
+    let mut pool = (constants as u16).to_be_bytes().to_vec();
+    pool.extend([7, 0, 10].repeat(constants));
+    shared_pool(&pool)
+}
+
+/// A file whose 1,024 records share a text.
+pub fn shared_text(length: u16) -> Vec<u8> {
+    let mut pool = vec![0, 1, 0];
+    pool.extend(length.to_be_bytes());
+    pool.extend(vec![b'x'; length.into()]);
+    pool.push(0);
+    shared_pool(&pool)
+}
+
+/// Records whose code ends where one pool begins.
+fn shared_pool(pool: &[u8]) -> Vec<u8> {
+    let mut content = Vec::new();
+    for number in 1..=RECORDS {
+        let size = if number == RECORDS { LAST_SIZE } else { 16 };
+        let code = (RECORDS - number) * 16;
+        content.extend(head(size, 1, 1, 0, code as u32));
+    }
+    content.extend(pool);
+    content.extend([0, 0]);
+    file(&[irep(&content)])
+}
+
+/// A file of one record with as many jumps as it holds, all over each other.
+pub fn many_jumps() -> Vec<u8> {
+    let jumps = 10_000;
+    let mut code = Vec::new();
+    for number in 0..jumps {
+        // Forward from the first half into the second, and back.
+        let target = 3 * ((number * 7_919) % jumps);
+        let distance = target - (3 * number + 3);
+        code.push(38);
+        code.extend((distance as i16).to_be_bytes());
+    }
+    code.push(118);
+    one(&code, &[], &[])
+}
+
+/// A file of one record where every step names a constant of nearly the whole file.
+pub fn long_constant() -> Vec<u8> {
+    let mut text = vec![0, 0xb0, 0];
+    text.extend([b'<'; 0xb000]);
+    text.push(0);
+    let mut code = [92, 0, 0].repeat(6_000);
+    code.push(118);
+    one(&code, &[&text], &[])
+}
+
+/// A record of 1,024 children, or a chain of 1,024 records.
+pub fn tree(wide: bool) -> Vec<u8> {
+    let mut content = Vec::new();
+    for number in 0..RECORDS {
+        let rlen = match (wide, number) {
+            (true, 0) => RECORDS as u16 - 1,
+            (true, _) => 0,
+            (false, number) => u16::from(number + 1 < RECORDS),
+        };
+        content.extend(record(rlen, &[118], &[], &[]));
+    }
+    file(&[irep(&content)])
+}

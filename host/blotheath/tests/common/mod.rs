@@ -1,0 +1,161 @@
+//! What the tests share: files to work on, the command, a reader of JSON.
+
+#![allow(dead_code)]
+
+pub mod build;
+pub mod json;
+
+use std::fs;
+use std::io::Write;
+use std::path::{Path, PathBuf};
+use std::process::{Command, Stdio};
+
+/// The repository's own sample.
+pub fn sample() -> PathBuf {
+    PathBuf::from(env!("CARGO_MANIFEST_DIR")).join("../samples/oval.mrb")
+}
+
+pub fn sample_bytes() -> Vec<u8> {
+    fs::read(sample()).unwrap()
+}
+
+/// The sample, and the files of the corpus where it is there.
+pub fn files() -> Vec<PathBuf> {
+    let folder = match std::env::var_os("BLOTHEATH_CORPUS") {
+        Some(folder) => PathBuf::from(folder),
+        None => PathBuf::from(env!("CARGO_MANIFEST_DIR")).join("../../../shared/corpus"),
+    };
+    let mut files = vec![sample()];
+    match fs::read_dir(&folder) {
+        Ok(entries) => files.extend(entries.map(|entry| entry.unwrap().path())),
+        Err(_) => println!("no corpus at {}", folder.display()),
+    }
+    files.retain(|path| path.extension().is_some_and(|end| end == "mrb"));
+    files.sort();
+    files
+}
+
+/// What a command gave.
+#[derive(Debug)]
+pub struct Ran {
+    pub status: i32,
+    pub out: String,
+    pub err: String,
+}
+
+/// Runs the command with these words and this standard input.
+pub fn run_with(words: &[&str], input: &[u8]) -> Ran {
+    finish(
+        Command::new(env!("CARGO_BIN_EXE_blotheath")).args(words),
+        input,
+    )
+}
+
+pub fn run(words: &[&str]) -> Ran {
+    run_with(words, b"")
+}
+
+/// Runs the command in 64 MB of address space, with what its own file takes on top.
+pub fn run_in_64_mb(words: &[&str]) -> Ran {
+    let command = env!("CARGO_BIN_EXE_blotheath");
+    let own = fs::metadata(command).unwrap().len() / 1024;
+    let script = format!("ulimit -v {}; exec \"$0\" \"$@\"", 65_536 + own);
+    let mut shell = Command::new("sh");
+    finish(shell.args(["-c", &script, command]).args(words), b"")
+}
+
+/// Runs a command to its end; a panic or a signal fails the test.
+fn finish(command: &mut Command, input: &[u8]) -> Ran {
+    let mut child = command
+        .stdin(Stdio::piped())
+        .stdout(Stdio::piped())
+        .stderr(Stdio::piped())
+        .spawn()
+        .unwrap();
+    let mut stdin = child.stdin.take().unwrap();
+    let input = input.to_vec();
+    // The command may end before it has read everything.
+    let writer = std::thread::spawn(move || stdin.write_all(&input).is_ok());
+    let output = child.wait_with_output().unwrap();
+    writer.join().unwrap();
+    let ran = Ran {
+        status: output.status.code().expect("the command ends by itself"),
+        out: String::from_utf8(output.stdout).expect("the output is UTF-8"),
+        err: String::from_utf8(output.stderr).expect("the errors are UTF-8"),
+    };
+    assert!(ran.status <= 2, "{ran:?}");
+    assert!(!ran.err.contains("panicked"), "{ran:?}");
+    ran
+}
+
+/// Whether a text could steer a terminal.
+pub fn steers(text: &str) -> bool {
+    text.chars().any(|c| c.is_control() && c != '\n')
+}
+
+/// A folder for one test, which is removed with it.
+pub struct Folder(PathBuf);
+
+impl Folder {
+    pub fn new(name: &str) -> Folder {
+        let folder = std::env::temp_dir().join(format!("blotheath-{}-{name}", std::process::id()));
+        fs::create_dir_all(&folder).unwrap();
+        Folder(folder)
+    }
+
+    pub fn path(&self) -> &Path {
+        &self.0
+    }
+
+    /// Writes a file and answers its path.
+    pub fn file(&self, name: &str, bytes: &[u8]) -> String {
+        let path = self.0.join(name);
+        fs::create_dir_all(path.parent().unwrap()).unwrap();
+        fs::write(&path, bytes).unwrap();
+        path.to_str().unwrap().to_owned()
+    }
+}
+
+impl Drop for Folder {
+    fn drop(&mut self) {
+        let _ = fs::remove_dir_all(&self.0);
+    }
+}
+
+/// Numbers from a seed.
+pub struct Numbers(pub u64);
+
+impl Numbers {
+    pub fn next(&mut self) -> u64 {
+        self.0 = self.0.wrapping_add(0x9e37_79b9_7f4a_7c15);
+        let mut z = self.0;
+        z = (z ^ (z >> 30)).wrapping_mul(0xbf58_476d_1ce4_e5b9);
+        z = (z ^ (z >> 27)).wrapping_mul(0x94d0_49bb_1331_11eb);
+        z ^ (z >> 31)
+    }
+
+    pub fn below(&mut self, bound: usize) -> usize {
+        (self.next() % bound.max(1) as u64) as usize
+    }
+}
+
+/// A file with a few bytes changed, or cut, or longer.
+pub fn damaged(file: &[u8], numbers: &mut Numbers) -> Vec<u8> {
+    let mut bytes = file.to_vec();
+    match numbers.below(8) {
+        0 => bytes.truncate(numbers.below(file.len())),
+        1 => bytes.extend((0..numbers.below(40)).map(|n| n as u8)),
+        _ => {}
+    }
+    for _ in 0..=numbers.below(3) {
+        if !bytes.is_empty() {
+            let place = numbers.below(bytes.len());
+            bytes[place] = match numbers.below(3) {
+                0 => numbers.next() as u8,
+                1 => bytes[place].wrapping_add(1),
+                _ => [0, 1, 118, 255][numbers.below(4)],
+            };
+        }
+    }
+    bytes
+}

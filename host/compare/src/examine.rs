@@ -1,0 +1,115 @@
+//! Examination: the port held against the model over lent tables of any sizes, and both against the corpus.
+
+use crate::Stop;
+use crate::args::Args;
+use crate::generate::Generator;
+use crate::load::{at_work, corpus, difference, garbage, other_sizes, watch};
+use crate::rng::Rng;
+use crate::subject::{Subject, first_difference, subjects};
+use model::{Refusal, Sizes};
+
+/// What examination answers on a file of the corpus, by the corpus's own description.
+pub fn of_corpus(name: &str) -> Refusal {
+    match name {
+        n if n.starts_with("25_zero_in_string") => 9,
+        n if n.starts_with("27_wide_operands") => 16,
+        _ => 0,
+    }
+}
+
+/// `compare examine`
+pub fn compare(args: &Args) -> Result<(), Stop> {
+    args.only(&["--files", "--seed", "--first"])
+        .map_err(Stop::Usage)?;
+    let files = args.number("--files", 20_000).map_err(Stop::Usage)?;
+    let seed = args.number("--seed", 1).map_err(Stop::Usage)?;
+    let first = args.number("--first", 0).map_err(Stop::Usage)?;
+    watch();
+    let subjects = subjects();
+    let corpus = corpus();
+    let mut by_number = [[0u64; 2]; 21];
+    for (i, (name, file)) in corpus.iter().enumerate() {
+        let mut rng = Rng::new(seed, u64::MAX - i as u64);
+        let [fitting, _] =
+            one(&subjects, file, &mut rng).map_err(|why| difference(name, file, &why))?;
+        if fitting != of_corpus(name) {
+            let why = format!(
+                "the answer is {fitting}, the corpus says {}",
+                of_corpus(name)
+            );
+            return Err(difference(name, file, &why));
+        }
+    }
+    println!(
+        "seed {seed}, {} corpus files as described, {files} generated",
+        corpus.len()
+    );
+    let generator = Generator {
+        corpus: corpus.into_iter().map(|(_, file)| file).collect(),
+    };
+    for index in first..first + files {
+        let file = generator.examinable(seed, index);
+        let mut rng = Rng::new(!seed, index);
+        let answers = one(&subjects, &file, &mut rng)
+            .map_err(|why| difference(&format!("seed {seed} index {index}"), &file, &why))?;
+        for (side, answer) in answers.into_iter().enumerate() {
+            by_number[answer as usize][side] += 1;
+        }
+    }
+    let names: Vec<&str> = subjects.iter().map(|subject| subject.name()).collect();
+    println!("subjects: {}", names.join(", "));
+    println!("answers over tables that fit, and over other sizes:");
+    for (number, [fitting, other]) in by_number.iter().enumerate() {
+        let name = match number {
+            0 => "passed".to_owned(),
+            n => format!("refused {n}"),
+        };
+        println!("  {name:<11}{fitting:>9}{other:>9}");
+    }
+    println!("no difference");
+    Ok(())
+}
+
+/// Holds every subject against the model on one file; answers the numbers over tables that fit and over other sizes.
+fn one(subjects: &[Box<dyn Subject>], file: &[u8], rng: &mut Rng) -> Result<[Refusal; 2], String> {
+    at_work(file);
+    let needed = model::read(file, [usize::MAX; 9]).rows.used();
+    let mut fitting = Sizes::of_rows(needed);
+    for words in &mut fitting.0 {
+        *words += rng.below(4);
+    }
+    let lent = [fitting, other_sizes(needed, rng)];
+    let mut numbers = [0; 2];
+    for (number, sizes) in numbers.iter_mut().zip(lent) {
+        let right = model::examine(file, &sizes);
+        let loaded = model::load(file, &sizes);
+        *number = right.refusal;
+        // What a load refuses is refused alike; a file that passes answers what its load answers.
+        if loaded.refusal != 0 && right.refusal != loaded.refusal
+            || right.refusal == 0 && right != loaded
+        {
+            return Err(format!(
+                "over {:?} words the model loads with {} and examines with {}",
+                sizes.0, loaded.refusal, right.refusal
+            ));
+        }
+        for subject in subjects {
+            let mut tables = garbage(&sizes, rng);
+            let answer = subject.examine(file, &mut tables);
+            let name = subject.name();
+            if (answer.refusal, answer.rows) != (right.refusal, right.rows) {
+                return Err(format!(
+                    "over {:?} words {name} answers {answer:?}, the model {} and {:?}",
+                    sizes.0, right.refusal, right.rows
+                ));
+            }
+            if let Some(difference) = first_difference(&tables, &right.tables) {
+                return Err(format!(
+                    "over {:?} words {name} and the model: {difference}",
+                    sizes.0
+                ));
+            }
+        }
+    }
+    Ok(numbers)
+}

@@ -1,0 +1,215 @@
+//! Follow: the port held against the model on files that pass, and on some that do not, along any choices.
+
+use crate::Stop;
+use crate::args::Args;
+use crate::examine::of_corpus;
+use crate::generate::Generator;
+use crate::load::{at_work, corpus, difference, garbage, hex, other_sizes, watch};
+use crate::rng::Rng;
+use crate::subject::{Model, Subject, first_difference, subjects};
+use model::Sizes;
+
+#[derive(Default)]
+struct Counts {
+    runs: u64,
+    by_number: [u64; 22],
+    finished: u64,
+    with_line: u64,
+    choices: u64,
+    /// Runs by the number of frames left; the last counts those of more.
+    by_frames: [u64; 5],
+}
+
+/// `compare follow`
+pub fn compare(args: &Args) -> Result<(), Stop> {
+    args.only(&["--files", "--seed", "--first"])
+        .map_err(Stop::Usage)?;
+    let files = args.number("--files", 10_000).map_err(Stop::Usage)?;
+    let seed = args.number("--seed", 1).map_err(Stop::Usage)?;
+    let first = args.number("--first", 0).map_err(Stop::Usage)?;
+    watch();
+    let subjects = subjects();
+    let corpus = corpus();
+    let mut counts = Counts::default();
+    for (i, (name, file)) in corpus.iter().enumerate() {
+        let mut rng = Rng::new(seed, u64::MAX - i as u64);
+        // Without a choice the answer is that of the examination.
+        let sizes = Sizes::of_rows(model::read(file, [usize::MAX; 9]).rows.used());
+        let records = sizes.rows()[0];
+        for subject in &subjects {
+            let mut frames = vec![1; 2 * records];
+            let answer = subject.follow(file, &mut garbage(&sizes, &mut rng), &mut frames, &[]);
+            if answer.refusal != of_corpus(name) {
+                let why = format!("{} answers {answer:?}", subject.name());
+                return Err(difference(name, file, &why));
+            }
+        }
+        for _ in 0..20 {
+            one(&subjects, file, &mut rng, &mut counts)
+                .map_err(|why| difference(name, file, &why))?;
+        }
+    }
+    println!(
+        "seed {seed}, {} corpus files, {files} generated",
+        corpus.len()
+    );
+    let generator = Generator {
+        corpus: corpus.into_iter().map(|(_, file)| file).collect(),
+    };
+    for index in first..first + files {
+        let file = generator.runnable(seed, index);
+        let mut rng = Rng::new(!seed, index);
+        for _ in 0..4 {
+            one(&subjects, &file, &mut rng, &mut counts)
+                .map_err(|why| difference(&format!("seed {seed} index {index}"), &file, &why))?;
+        }
+    }
+    let names: Vec<&str> = subjects.iter().map(|subject| subject.name()).collect();
+    println!("subjects: {}", names.join(", "));
+    println!("runs: {}", counts.runs);
+    for (number, runs) in counts.by_number.iter().enumerate().skip(1) {
+        println!("  refused {number:<3}{runs:>9}");
+    }
+    println!(
+        "  ran        {:>9}, of {} choices in all",
+        counts.by_number[0], counts.choices
+    );
+    println!("  finished   {:>9}", counts.finished);
+    println!("  with a line{:>9}", counts.with_line);
+    println!(
+        "  by frames, from 0 to 3 and more: {:?}\nno difference",
+        counts.by_frames
+    );
+    Ok(())
+}
+
+/// A list of choices: none, valid, long, cut, or with a kind above 4.
+fn choices(rng: &mut Rng) -> Vec<u8> {
+    let number = match rng.below(12) {
+        0 => 0,
+        1 => rng.below(2_000),
+        2..=4 => rng.below(80),
+        _ => rng.between(1, 12),
+    };
+    let leaves = rng.pick(&[0, 4, 20, 60]);
+    let favourite = rng.pick(&[0, 0, 1, 2, 2]);
+    let mut bytes = Vec::new();
+    for _ in 0..number {
+        if rng.one_in(leaves) {
+            bytes.push(4);
+            continue;
+        }
+        match rng.below(10) {
+            0..4 => bytes.push(favourite),
+            4 | 5 => bytes.push(0),
+            6 | 7 => bytes.push(1),
+            8 => bytes.push(2),
+            _ => {
+                let handler = match rng.below(8) {
+                    0 => rng.below(65_536),
+                    1 => 256,
+                    _ => rng.below(4),
+                };
+                bytes.extend([3, (handler / 256) as u8, handler as u8]);
+            }
+        }
+    }
+    match rng.below(16) {
+        0 => {
+            let at = rng.below(bytes.len() + 1);
+            let kind = rng.pick(&[5, 6, 127, 128, 255]);
+            bytes.insert(at, kind);
+        }
+        1 => bytes.extend(&[3, 0][..rng.between(1, 2)]),
+        2 => bytes.extend(rng.bytes(2)),
+        _ => {}
+    }
+    bytes
+}
+
+/// How many bytes of a list lead up to, and not past, the choice that finishes the run.
+fn unfinished(bytes: &[u8], finishes: impl Fn(&[u8]) -> bool) -> usize {
+    let mut ends = vec![0];
+    let mut at = 0;
+    while at < bytes.len() {
+        at += if bytes[at] == 3 { 3 } else { 1 };
+        ends.push(at.min(bytes.len()));
+    }
+    // A finished run remains so.
+    let unfinished = ends.partition_point(|end| !finishes(&bytes[..*end]));
+    ends[unfinished.max(1) - 1]
+}
+
+/// A list of choices for a file, that most of the time does not finish its run.
+pub fn choices_of(file: &[u8], sizes: &Sizes, frame_words: usize, rng: &mut Rng) -> Vec<u8> {
+    let mut choices = choices(rng);
+    if !rng.one_in(3) {
+        let finishes = |bytes: &[u8]| model::follow(file, sizes, frame_words, bytes).finished;
+        choices.truncate(unfinished(&choices, finishes));
+    }
+    choices
+}
+
+/// The words of a frame table for so many records: as many rows, more, an odd word, too few, none.
+pub fn frame_words(records: usize, rng: &mut Rng) -> usize {
+    match rng.below(10) {
+        0 => rng.below(2 * records + 1),
+        1 => (2 * records).saturating_sub(1),
+        2 => 2 * records + 1,
+        3..=5 => 2 * records + rng.below(9),
+        _ => 2 * records,
+    }
+}
+
+/// Holds every subject against the model on one file, over some choices, sizes and frame table.
+fn one(
+    subjects: &[Box<dyn Subject>],
+    file: &[u8],
+    rng: &mut Rng,
+    counts: &mut Counts,
+) -> Result<(), String> {
+    at_work(file);
+    let needed = model::read(file, [usize::MAX; 9]).rows.used();
+    let sizes = if rng.one_in(8) {
+        other_sizes(needed, rng)
+    } else {
+        Sizes::of_rows(needed.map(|rows| rows + rng.below(2)))
+    };
+    let words = frame_words(needed[0], rng);
+    let choices = choices_of(file, &sizes, words, rng);
+    let mut right_tables = garbage(&sizes, rng);
+    let mut right_frames = vec![rng.word() | 1; words];
+    let right = Model.follow(file, &mut right_tables, &mut right_frames, &choices);
+    for subject in subjects {
+        let mut tables = garbage(&sizes, rng);
+        let mut frames = vec![rng.word() | 1; words];
+        let answer = subject.follow(file, &mut tables, &mut frames, &choices);
+        let what = format!(
+            "over {:?} and {words} words along {} {}",
+            sizes.0,
+            hex(&choices),
+            subject.name()
+        );
+        if answer != right {
+            return Err(format!("{what} answers {answer:?}, the model {right:?}"));
+        }
+        if let Some(difference) = first_difference(&tables, &right_tables) {
+            return Err(format!("{what} and the model: {difference}"));
+        }
+        if frames != right_frames {
+            return Err(format!(
+                "{what} leaves frames {frames:?}, the model {right_frames:?}"
+            ));
+        }
+    }
+    let [finished, _, _, found, _, frames] = right.numbers;
+    counts.runs += 1;
+    counts.by_number[right.refusal as usize] += 1;
+    if right.refusal == 0 {
+        counts.choices += model::choices(&choices).map_or(0, |list| list.len() as u64);
+        counts.finished += u64::from(finished);
+        counts.with_line += u64::from(found);
+        counts.by_frames[frames.min(4) as usize] += 1;
+    }
+    Ok(())
+}
