@@ -1,15 +1,34 @@
-// Runs paper 01's samples of loading, then replays stored reference answers of load, fetch and line lookup, all by the functions of the C boundary.
+// Runs paper 01's samples of loading, examination and run, then replays stored answers, all by the functions of the C boundary.
 // The stored form stands at the top of host/compare/src/store.rs; its numbers have four bytes, high byte first.
 use binfmt::Field32;
+use blotheath::blotheath_debug_file;
+use blotheath::blotheath_examine;
 use blotheath::blotheath_fetch;
+use blotheath::blotheath_follow;
+use blotheath::blotheath_handler;
+use blotheath::blotheath_instructions;
+use blotheath::blotheath_line;
 use blotheath::blotheath_line_at;
 use blotheath::blotheath_load;
+use blotheath::blotheath_name;
+use blotheath::blotheath_pool;
+use blotheath::blotheath_symbol;
+use boundary::BlotheathConstant;
+use boundary::BlotheathDebugFile;
 use boundary::BlotheathFetched;
+use boundary::BlotheathFollowed;
+use boundary::BlotheathHandler;
 use boundary::BlotheathLine;
 use boundary::BlotheathLoaded;
+use boundary::BlotheathLookedLine;
+use boundary::BlotheathName;
+use boundary::BlotheathText;
 use libc::STDIN_FILENO;
 use libc::STDOUT_FILENO;
+use number::Float64;
+use number::Int64;
 ghost use Prim.Native.Nat.{_≤_};
+ghost use lib.ListN.{length};
 
 // How far the replay has come: the place of the next item, the file and the map that stand last, and the answers of this group.
 struct State {
@@ -23,9 +42,9 @@ struct State {
     differences: u32,
 }
 
-// What a load answers, and the sum of its tables afterwards.
+// What a load, an examination or a follow answers, and the sum of its tables afterwards.
 struct Outcome {
-    loaded: BlotheathLoaded,
+    numbers: [u32; 10],
     sum: u64,
 }
 
@@ -110,27 +129,56 @@ fn sum_of_all(
     sum(lines, s8)
 }
 
-fn counts_agree(r: BlotheathLoaded, all: &[u8], at: usize) -> bool {
-    word(all, ahead(at, 4)) == r.records
-        && word(all, ahead(at, 8)) == r.handlers
-        && word(all, ahead(at, 12)) == r.pool
-        && word(all, ahead(at, 16)) == r.symbols
-        && word(all, ahead(at, 20)) == r.strings
-        && word(all, ahead(at, 24)) == r.names
-        && word(all, ahead(at, 28)) == r.filenames
-        && word(all, ahead(at, 32)) == r.files
-        && word(all, ahead(at, 36)) == r.lines
+fn of_loaded(r: BlotheathLoaded) -> [u32; 10] {
+    [
+        r.refusal,
+        r.records,
+        r.handlers,
+        r.pool,
+        r.symbols,
+        r.strings,
+        r.names,
+        r.filenames,
+        r.files,
+        r.lines,
+    ]
 }
 
-// Whether a load's answer and the sum of its tables are the stored ones.
-fn load_agrees(o: Outcome, all: &[u8], at: usize) -> bool {
-    let r = o.loaded;
-    word(all, at) == r.refusal
-        && (word(all, ahead(at, 40)) as u64) == o.sum
-        && counts_agree(r, all, at)
+fn of_followed(r: BlotheathFollowed) -> [u32; 10] {
+    [
+        r.refusal,
+        r.finished,
+        r.record,
+        r.offset,
+        r.found,
+        r.line,
+        r.frames,
+        0,
+        0,
+        0,
+    ]
 }
 
-fn load_summed(
+// Whether five numbers are those stored at a place.
+fn five_agree(a: u32, b: u32, c: u32, d: u32, e: u32, all: &[u8], at: usize) -> bool {
+    word(all, at) == a
+        && word(all, ahead(at, 4)) == b
+        && word(all, ahead(at, 8)) == c
+        && word(all, ahead(at, 12)) == d
+        && word(all, ahead(at, 16)) == e
+}
+
+// Whether an answer and the sum of its tables are the stored ones.
+fn outcome_agrees(o: Outcome, all: &[u8], at: usize) -> bool {
+    let n = o.numbers;
+    (word(all, ahead(at, 40)) as u64) == o.sum
+        && five_agree(n[0], n[1], n[2], n[3], n[4], all, at)
+        && five_agree(n[5], n[6], n[7], n[8], n[9], all, ahead(at, 20))
+}
+
+// A load, an examination or a follow, by the kind of its item.
+fn call(
+    kind: u32,
     file: &[u8],
     records: &mut [u32],
     handlers: &mut [u32],
@@ -141,8 +189,68 @@ fn load_summed(
     filenames: &mut [u32],
     files: &mut [u32],
     lines: &mut [u32],
+    frames: &mut [u32],
+    choices: &[u8],
+) -> [u32; 10] {
+    match kind {
+        2 => of_loaded(blotheath_load(
+            file,
+            records,
+            handlers,
+            pool,
+            symbols,
+            strings,
+            names,
+            filenames,
+            files,
+            lines,
+        )),
+        7 => of_loaded(blotheath_examine(
+            file,
+            records,
+            handlers,
+            pool,
+            symbols,
+            strings,
+            names,
+            filenames,
+            files,
+            lines,
+        )),
+        _ => of_followed(blotheath_follow(
+            file,
+            records,
+            handlers,
+            pool,
+            symbols,
+            strings,
+            names,
+            filenames,
+            files,
+            lines,
+            frames,
+            choices,
+        )),
+    }
+}
+
+fn call_summed(
+    kind: u32,
+    file: &[u8],
+    records: &mut [u32],
+    handlers: &mut [u32],
+    pool: &mut [u32],
+    symbols: &mut [u32],
+    strings: &mut [u32],
+    names: &mut [u32],
+    filenames: &mut [u32],
+    files: &mut [u32],
+    lines: &mut [u32],
+    frames: &mut [u32],
+    choices: &[u8],
 ) -> Outcome {
-    let loaded = blotheath_load(
+    let numbers = call(
+        kind,
         file,
         records,
         handlers,
@@ -153,8 +261,10 @@ fn load_summed(
         filenames,
         files,
         lines,
+        frames,
+        choices,
     );
-    let sum = sum_of_all(
+    let of_nine = sum_of_all(
         records,
         handlers,
         pool,
@@ -165,11 +275,19 @@ fn load_summed(
         files,
         lines,
     );
-    Outcome { loaded, sum }
+    let sum = sum(frames, of_nine);
+    Outcome { numbers, sum }
 }
 
-// A load over tables of nine sizes that stand at a place; they hold anything before it.
-fn load_sized(file: &[u8], all: &[u8], at: usize) -> Outcome {
+// A call over tables of nine sizes that stand at a place, and over a frame table; they hold anything before it.
+fn call_sized(
+    kind: u32,
+    file: &[u8],
+    all: &[u8],
+    at: usize,
+    frame_words: usize,
+    choices: &[u8],
+) -> Outcome {
     let mut records = [3735928559u32; 20000];
     let mut handlers = [3735928559u32; 8192];
     let mut pool = [3735928559u32; 8192];
@@ -179,6 +297,7 @@ fn load_sized(file: &[u8], all: &[u8], at: usize) -> Outcome {
     let mut filenames = [3735928559u32; 8192];
     let mut files = [3735928559u32; 8192];
     let mut lines = [3735928559u32; 8192];
+    let mut frames = [3735928559u32; 2048];
     let a = size(all, at, 20000);
     let b = size(all, ahead(at, 4), 8192);
     let c = size(all, ahead(at, 8), 8192);
@@ -188,7 +307,9 @@ fn load_sized(file: &[u8], all: &[u8], at: usize) -> Outcome {
     let g = size(all, ahead(at, 24), 8192);
     let h = size(all, ahead(at, 28), 8192);
     let i = size(all, ahead(at, 32), 8192);
-    load_summed(
+    let j = least(frame_words, 2048);
+    call_summed(
+        kind,
         file,
         &mut records[0..a],
         &mut handlers[0..b],
@@ -199,21 +320,21 @@ fn load_sized(file: &[u8], all: &[u8], at: usize) -> Outcome {
         &mut filenames[0..g],
         &mut files[0..h],
         &mut lines[0..i],
+        &mut frames[0..j],
+        choices,
     )
 }
 
-fn load_at(all: &[u8], file: usize, bytes: usize, at: usize) -> bool {
-    let end = least(ahead(file, bytes), all.len());
-    let start = least(file, end);
-    load_agrees(load_sized(&all[start..end], all, at), all, ahead(at, 36))
+// Whether a call on a file answers as stored; the nine sizes stand first, then the answer.
+fn call_at(kind: u32, all: &[u8], s: State, at: usize, frame_words: usize, choices: &[u8]) -> bool {
+    let end = least(ahead(s.file, s.bytes), all.len());
+    let start = least(s.file, end);
+    let o = call_sized(kind, &all[start..end], all, at, frame_words, choices);
+    outcome_agrees(o, all, ahead(at, 36))
 }
 
 fn fetched_agrees(r: BlotheathFetched, all: &[u8], at: usize) -> bool {
-    word(all, at) == r.refusal
-        && word(all, ahead(at, 4)) == r.kind
-        && word(all, ahead(at, 8)) == r.a
-        && word(all, ahead(at, 12)) == r.b
-        && word(all, ahead(at, 16)) == r.c
+    five_agree(r.refusal, r.kind, r.a, r.b, r.c, all, at)
 }
 
 fn fetch_at(all: &[u8], code: usize, bytes: usize, at: usize) -> bool {
@@ -243,9 +364,191 @@ fn line_in(words: &mut [u32], all: &[u8], map: usize, at: usize) -> bool {
 }
 
 fn line_at(all: &[u8], map: usize, rows: usize, at: usize) -> bool {
-    let mut words = [0u32; 256];
-    let n = least(rows, 256);
+    let mut words = [0u32; 512];
+    let n = least(rows, 512);
     line_in(&mut words[0..n], all, map, at)
+}
+
+fn of_text(r: BlotheathText) -> [u32; 6] {
+    [r.refusal, r.place, r.length, 0, 0, 0]
+}
+
+fn of_handler(r: BlotheathHandler) -> [u32; 6] {
+    [r.refusal, r.kind, r.begin, r.end, r.target, 0]
+}
+
+fn of_name(r: BlotheathName) -> [u32; 6] {
+    [r.refusal, r.named, r.place, r.length, 0, 0]
+}
+
+fn of_debug_file(r: BlotheathDebugFile) -> [u32; 6] {
+    [r.refusal, r.start, r.place, r.length, r.first, r.number]
+}
+
+fn of_looked_line(r: BlotheathLookedLine) -> [u32; 6] {
+    [r.refusal, r.found, r.line, 0, 0, 0]
+}
+
+fn looked_agrees(n: [u32; 6], all: &[u8], at: usize) -> bool {
+    word(all, at) == n[0] && five_agree(n[1], n[2], n[3], n[4], n[5], all, ahead(at, 4))
+}
+
+fn same_int(n: i64, all: &[u8], at: usize) -> bool {
+    match number::i64_at(all, at) {
+        Int64::Value(m) => m == n,
+        Int64::Refused(r) => false,
+    }
+}
+
+// Equal floats, zeros of one sign, or two NaNs.
+fn floats_agree(x: f64, y: f64) -> bool {
+    if x == y {
+        return 1.0 / x == 1.0 / y;
+    }
+    x != x && y != y
+}
+
+fn same_float(x: f64, all: &[u8], at: usize) -> bool {
+    match number::f64_at(all, at) {
+        Float64::Value(y) => floats_agree(x, y),
+        Float64::Refused(r) => false,
+    }
+}
+
+fn constant_agrees(r: BlotheathConstant, all: &[u8], at: usize) -> bool {
+    word(all, at) == r.refusal
+        && word(all, ahead(at, 4)) == r.kind
+        && word(all, ahead(at, 8)) == r.place
+        && word(all, ahead(at, 12)) == r.length
+        && same_int(r.int, all, ahead(at, 16))
+        && same_float(r.float, all, ahead(at, 24))
+}
+
+fn wide(n: u32) -> usize {
+    n as usize
+}
+
+// Where the words of a table end that start at a place behind the nine lengths; at the last word if they are too few.
+fn table_end(words: &[u32], table: usize, start: usize) -> usize
+    requires { ⌜ start ≤ length (now words) ⌝ }
+    ensures { λ r. ⌜ (start ≤ r) × (r ≤ length (now (words .entry))) ⌝ }
+{
+    if table < words.len() {
+        let n = wide(words[table]);
+        if n < words.len() - start {
+            return start + n;
+        }
+    }
+    words.len()
+}
+
+// Where the words of a table start, behind the nine lengths and the tables before it.
+fn table_start(words: &[u32], table: usize) -> usize
+    ensures { λ r. ⌜ r ≤ length (now (words .entry)) ⌝ }
+{
+    let mut at = least(9, words.len());
+    let mut i = 0;
+    while i < table {
+        at = table_end(words, i, at);
+        i += 1;
+    }
+    at
+}
+
+// A lookup that reads the records and one other table.
+fn look_up(
+    lookup: u32,
+    file: &[u8],
+    records: &[u32],
+    table: &[u32],
+    rec: u32,
+    index: u32,
+) -> [u32; 6] {
+    match lookup {
+        0 => of_text(blotheath_instructions(file, records, rec)),
+        1 => of_handler(blotheath_handler(records, table, rec, index)),
+        3 => of_text(blotheath_symbol(file, records, table, rec, index)),
+        _ => of_looked_line(blotheath_line(records, table, rec, index)),
+    }
+}
+
+// The other table of such a lookup.
+fn table_of(lookup: u32) -> usize {
+    match lookup {
+        1 => 1,
+        3 => 3,
+        _ => 8,
+    }
+}
+
+fn look_up_in(words: &[u32], lookup: u32, file: &[u8], rec: u32, index: u32) -> [u32; 6] {
+    let a = table_start(words, 0);
+    let b = table_end(words, 0, a);
+    let table = table_of(lookup);
+    let c = table_start(words, table);
+    let d = table_end(words, table, c);
+    look_up(lookup, file, &words[a..b], &words[c..d], rec, index)
+}
+
+fn name_in(words: &[u32], file: &[u8], rec: u32, index: u32) -> [u32; 6] {
+    let a = table_start(words, 0);
+    let b = table_end(words, 0, a);
+    let c = table_start(words, 4);
+    let d = table_end(words, 4, c);
+    let e = table_end(words, 5, d);
+    of_name(blotheath_name(file, &words[a..b], &words[c..d], &words[d..e], rec, index))
+}
+
+fn debug_file_in(words: &[u32], file: &[u8], rec: u32, index: u32) -> [u32; 6] {
+    let a = table_start(words, 0);
+    let b = table_end(words, 0, a);
+    let c = table_start(words, 6);
+    let d = table_end(words, 6, c);
+    let e = table_end(words, 7, d);
+    let f = table_end(words, 8, e);
+    of_debug_file(blotheath_debug_file(
+        file,
+        &words[a..b],
+        &words[c..d],
+        &words[d..e],
+        &words[e..f],
+        rec,
+        index,
+    ))
+}
+
+fn constant_in(words: &[u32], file: &[u8], rec: u32, index: u32) -> BlotheathConstant {
+    let a = table_start(words, 0);
+    let b = table_end(words, 0, a);
+    let c = table_start(words, 2);
+    let d = table_end(words, 2, c);
+    blotheath_pool(file, &words[a..b], &words[c..d], rec, index)
+}
+
+// Whether a lookup in nine tables answers as stored at a place, behind the record and the index.
+fn looked_in(words: &[u32], lookup: u32, file: &[u8], all: &[u8], at: usize) -> bool {
+    let rec = word(all, at);
+    let index = word(all, ahead(at, 4));
+    let answer = ahead(at, 8);
+    match lookup {
+        2 => constant_agrees(constant_in(words, file, rec, index), all, answer),
+        4 => looked_agrees(name_in(words, file, rec, index), all, answer),
+        5 => looked_agrees(debug_file_in(words, file, rec, index), all, answer),
+        _ => looked_agrees(look_up_in(words, lookup, file, rec, index), all, answer),
+    }
+}
+
+fn read_and_look_up(words: &mut [u32], lookup: u32, all: &[u8], s: State, at: usize) -> bool {
+    read_words(words, all, s.map);
+    let end = least(ahead(s.file, s.bytes), all.len());
+    let start = least(s.file, end);
+    looked_in(words, lookup, &all[start..end], all, at)
+}
+
+fn look_up_at(lookup: u32, all: &[u8], s: State, at: usize) -> bool {
+    let mut words = [0u32; 512];
+    let n = least(s.rows, 512);
+    read_and_look_up(&mut words[0..n], lookup, all, s, at)
 }
 
 // The state behind an answer.
@@ -282,8 +585,19 @@ fn file_item(all: &[u8], s: State) -> State {
     }
 }
 
-fn load_item(all: &[u8], s: State) -> State {
-    answered(s, load_at(all, s.file, s.bytes, ahead(s.at, 4)), 84)
+// A load or an examination.
+fn load_item(kind: u32, all: &[u8], s: State) -> State {
+    answered(s, call_at(kind, all, s, ahead(s.at, 4), 0, &all[0..0]), 84)
+}
+
+fn follow_item(all: &[u8], s: State) -> State {
+    let frame_words = word(all, ahead(s.at, 84)) as usize;
+    let bytes = word(all, ahead(s.at, 88)) as usize;
+    let choices = ahead(s.at, 92);
+    let end = least(ahead(choices, bytes), all.len());
+    let start = least(choices, end);
+    let agrees = call_at(8, all, s, ahead(s.at, 4), frame_words, &all[start..end]);
+    answered(s, agrees, ahead(bytes, 92))
 }
 
 fn fetch_item(all: &[u8], s: State) -> State {
@@ -293,7 +607,7 @@ fn fetch_item(all: &[u8], s: State) -> State {
 fn map_item(all: &[u8], s: State) -> State {
     let rows = word(all, ahead(s.at, 4)) as usize;
     let map = ahead(s.at, 8);
-    let bytes = least(rows, 256) * 4;
+    let bytes = least(rows, 512) * 4;
     State {
         going: true,
         at: ahead(map, bytes),
@@ -308,6 +622,15 @@ fn map_item(all: &[u8], s: State) -> State {
 
 fn line_item(all: &[u8], s: State) -> State {
     answered(s, line_at(all, s.map, s.rows, ahead(s.at, 4)), 16)
+}
+
+fn lookup_item(all: &[u8], s: State) -> State {
+    let lookup = word(all, ahead(s.at, 4));
+    answered(s, look_up_at(lookup, all, s, ahead(s.at, 8)), 40)
+}
+
+fn constant_item(all: &[u8], s: State) -> State {
+    answered(s, look_up_at(2, all, s, ahead(s.at, 4)), 44)
 }
 
 fn print_part(all: &[u8], at: usize, bytes: usize) {
@@ -354,11 +677,15 @@ fn end_item(s: State) -> State {
 fn item(all: &[u8], s: State) -> State {
     match word(all, s.at) {
         1 => file_item(all, s),
-        2 => load_item(all, s),
+        2 => load_item(2, all, s),
         3 => fetch_item(all, s),
         4 => map_item(all, s),
         5 => line_item(all, s),
         6 => group_item(all, s),
+        7 => load_item(7, all, s),
+        8 => follow_item(all, s),
+        9 => lookup_item(all, s),
+        10 => constant_item(all, s),
         _ => end_item(s),
     }
 }
@@ -383,8 +710,8 @@ fn replay(all: &[u8]) {
     }
 }
 
-// A file loaded into tables of one row each: the answer and the number of records.
-fn sample(file: &[u8]) {
+// A call on a file over tables of one row each.
+fn over_one_row(kind: u32, file: &[u8], choices: &[u8]) -> [u32; 10] {
     let one_row = [
         0u8,
         0,
@@ -423,16 +750,44 @@ fn sample(file: &[u8]) {
         0,
         2,
     ];
-    let o = load_sized(file, &one_row, 0);
-    let r = o.loaded;
+    let o = call_sized(kind, file, &one_row, 0, 2, choices);
+    o.numbers
+}
+
+// A file loaded: the answer and the number of records.
+fn sample(file: &[u8]) {
+    let n = over_one_row(2, file, &file[0..0]);
     io::write_all(STDOUT_FILENO, b"sample: answer");
-    print_number(r.refusal);
+    print_number(n[0]);
     io::write_all(STDOUT_FILENO, b", records");
-    print_number(r.records);
+    print_number(n[1]);
+    io::write_all(STDOUT_FILENO, b"\n");
+}
+
+// A file examined: the answer.
+fn examined(file: &[u8]) {
+    let n = over_one_row(7, file, &file[0..0]);
+    io::write_all(STDOUT_FILENO, b"sample: examination");
+    print_number(n[0]);
+    io::write_all(STDOUT_FILENO, b"\n");
+}
+
+// A file followed along choices: whether the run is finished, and the top frame.
+fn followed(file: &[u8], choices: &[u8]) {
+    let n = over_one_row(8, file, choices);
+    io::write_all(STDOUT_FILENO, b"sample: answer");
+    print_number(n[0]);
+    io::write_all(STDOUT_FILENO, b", finished");
+    print_number(n[1]);
+    io::write_all(STDOUT_FILENO, b", record");
+    print_number(n[2]);
+    io::write_all(STDOUT_FILENO, b", offset");
+    print_number(n[3]);
     io::write_all(STDOUT_FILENO, b"\n");
 }
 
 // Paper 01's File A; with three and with four zero bytes behind it; then END alone behind its header, of size 12 and of size 0, and cut.
+// The file with END of size 12 is examined too; File A is followed going on once, then twice; a record that jumps below its start is examined.
 fn samples() {
     let a = [
         82u8,
@@ -578,6 +933,76 @@ fn samples() {
     ];
     sample(&never);
     sample(&end[..31]);
+    examined(&end);
+    let on = [0u8, 0];
+    followed(&a[..64], &on[..1]);
+    followed(&a[..64], &on);
+    let jump = [
+        82u8,
+        73,
+        84,
+        69,
+        48,
+        52,
+        48,
+        48,
+        0,
+        0,
+        0,
+        63,
+        0,
+        0,
+        0,
+        0,
+        0,
+        0,
+        0,
+        0,
+        73,
+        82,
+        69,
+        80,
+        0,
+        0,
+        0,
+        35,
+        0,
+        0,
+        0,
+        0,
+        0,
+        0,
+        0,
+        23,
+        0,
+        1,
+        0,
+        2,
+        0,
+        0,
+        0,
+        0,
+        0,
+        0,
+        0,
+        3,
+        38,
+        255,
+        252,
+        0,
+        0,
+        0,
+        0,
+        69,
+        78,
+        68,
+        0,
+        0,
+        0,
+        0,
+        8,
+    ];
+    examined(&jump);
 }
 
 fn main() {
