@@ -79,6 +79,8 @@ fn one(subjects: &[Box<dyn Subject>], file: &[u8], rng: &mut Rng) -> Result<[Ref
         *words += rng.below(4);
     }
     let lent = [fitting, other_sizes(needed, rng)];
+    // The cases do not depend on how many subjects there are.
+    let rng = &mut Rng::new(rng.next(), 0);
     let mut numbers = [0; 2];
     for (number, sizes) in numbers.iter_mut().zip(lent) {
         let right = model::examine(file, &sizes);

@@ -38,7 +38,8 @@ pub fn compare(args: &Args) -> Result<(), Stop> {
         let records = sizes.rows()[0];
         for subject in &subjects {
             let mut frames = vec![1; 2 * records];
-            let answer = subject.follow(file, &mut garbage(&sizes, &mut rng), &mut frames, &[]);
+            let mut tables = garbage(&sizes, &mut Rng::new(seed, 0));
+            let answer = subject.follow(file, &mut tables, &mut frames, &[]);
             if answer.refusal != of_corpus(name) {
                 let why = format!("{} answers {answer:?}", subject.name());
                 return Err(difference(name, file, &why));
@@ -177,6 +178,8 @@ fn one(
     };
     let words = frame_words(needed[0], rng);
     let choices = choices_of(file, &sizes, words, rng);
+    // The cases do not depend on how many subjects there are.
+    let rng = &mut Rng::new(rng.next(), 0);
     let mut right_tables = garbage(&sizes, rng);
     let mut right_frames = vec![rng.word() | 1; words];
     let right = Model.follow(file, &mut right_tables, &mut right_frames, &choices);
