@@ -1,18 +1,6 @@
-// Runs paper 01's samples of loading, examination and run, then replays stored answers, all by the functions of the C boundary.
+// Replays stored answers of every call, paper 01's samples first. Answers are compared as the structs of the C boundary.
 // The stored form stands at the top of host/compare/src/store.rs; its numbers have four bytes, high byte first.
 use binfmt::Field32;
-use blotheath::blotheath_debug_file;
-use blotheath::blotheath_examine;
-use blotheath::blotheath_fetch;
-use blotheath::blotheath_follow;
-use blotheath::blotheath_handler;
-use blotheath::blotheath_instructions;
-use blotheath::blotheath_line;
-use blotheath::blotheath_line_at;
-use blotheath::blotheath_load;
-use blotheath::blotheath_name;
-use blotheath::blotheath_pool;
-use blotheath::blotheath_symbol;
 use boundary::BlotheathConstant;
 use boundary::BlotheathDebugFile;
 use boundary::BlotheathFetched;
@@ -25,6 +13,7 @@ use boundary::BlotheathName;
 use boundary::BlotheathText;
 use libc::STDIN_FILENO;
 use libc::STDOUT_FILENO;
+use line::Pos;
 use number::Float64;
 use number::Int64;
 ghost use Prim.Native.Nat.{_≤_};
@@ -193,7 +182,7 @@ fn call(
     choices: &[u8],
 ) -> [u32; 10] {
     match kind {
-        2 => of_loaded(blotheath_load(
+        2 => of_loaded(boundary::loaded(rite::load(
             file,
             records,
             handlers,
@@ -204,8 +193,8 @@ fn call(
             filenames,
             files,
             lines,
-        )),
-        7 => of_loaded(blotheath_examine(
+        ))),
+        7 => of_loaded(boundary::loaded(examine::examine(
             file,
             records,
             handlers,
@@ -216,8 +205,8 @@ fn call(
             filenames,
             files,
             lines,
-        )),
-        _ => of_followed(blotheath_follow(
+        ))),
+        _ => of_followed(boundary::followed(follow::follow(
             file,
             records,
             handlers,
@@ -230,7 +219,7 @@ fn call(
             lines,
             frames,
             choices,
-        )),
+        ))),
     }
 }
 
@@ -340,7 +329,7 @@ fn fetched_agrees(r: BlotheathFetched, all: &[u8], at: usize) -> bool {
 fn fetch_at(all: &[u8], code: usize, bytes: usize, at: usize) -> bool {
     let end = least(ahead(code, bytes), all.len());
     let start = least(code, end);
-    fetched_agrees(blotheath_fetch(&all[start..end]), all, at)
+    fetched_agrees(boundary::fetched(insn::fetch(&all[start..end])), all, at)
 }
 
 // Reads as many words as there is place for.
@@ -360,7 +349,11 @@ fn line_agrees(r: BlotheathLine, all: &[u8], at: usize) -> bool {
 
 fn line_in(words: &mut [u32], all: &[u8], map: usize, at: usize) -> bool {
     read_words(words, all, map);
-    line_agrees(blotheath_line_at(words, word(all, at)), all, ahead(at, 4))
+    line_agrees(
+        boundary::line_found(line::line_at(words, Pos(word(all, at)))),
+        all,
+        ahead(at, 4),
+    )
 }
 
 fn line_at(all: &[u8], map: usize, rows: usize, at: usize) -> bool {
@@ -465,10 +458,10 @@ fn look_up(
     index: u32,
 ) -> [u32; 6] {
     match lookup {
-        0 => of_text(blotheath_instructions(file, records, rec)),
-        1 => of_handler(blotheath_handler(records, table, rec, index)),
-        3 => of_text(blotheath_symbol(file, records, table, rec, index)),
-        _ => of_looked_line(blotheath_line(records, table, rec, index)),
+        0 => of_text(boundary::text(lookup::instructions(file, records, rec))),
+        1 => of_handler(boundary::handler(lookup::handler(records, table, rec, index))),
+        3 => of_text(boundary::text(lookup::symbol(file, records, table, rec, index))),
+        _ => of_looked_line(boundary::looked_line(lookup::line(records, table, rec, Pos(index)))),
     }
 }
 
@@ -496,7 +489,14 @@ fn name_in(words: &[u32], file: &[u8], rec: u32, index: u32) -> [u32; 6] {
     let c = table_start(words, 4);
     let d = table_end(words, 4, c);
     let e = table_end(words, 5, d);
-    of_name(blotheath_name(file, &words[a..b], &words[c..d], &words[d..e], rec, index))
+    of_name(boundary::name(lookup::name(
+        file,
+        &words[a..b],
+        &words[c..d],
+        &words[d..e],
+        rec,
+        index,
+    )))
 }
 
 fn debug_file_in(words: &[u32], file: &[u8], rec: u32, index: u32) -> [u32; 6] {
@@ -506,7 +506,7 @@ fn debug_file_in(words: &[u32], file: &[u8], rec: u32, index: u32) -> [u32; 6] {
     let d = table_end(words, 6, c);
     let e = table_end(words, 7, d);
     let f = table_end(words, 8, e);
-    of_debug_file(blotheath_debug_file(
+    of_debug_file(boundary::debug_file(lookup::debug_file(
         file,
         &words[a..b],
         &words[c..d],
@@ -514,7 +514,7 @@ fn debug_file_in(words: &[u32], file: &[u8], rec: u32, index: u32) -> [u32; 6] {
         &words[e..f],
         rec,
         index,
-    ))
+    )))
 }
 
 fn constant_in(words: &[u32], file: &[u8], rec: u32, index: u32) -> BlotheathConstant {
@@ -522,7 +522,7 @@ fn constant_in(words: &[u32], file: &[u8], rec: u32, index: u32) -> BlotheathCon
     let b = table_end(words, 0, a);
     let c = table_start(words, 2);
     let d = table_end(words, 2, c);
-    blotheath_pool(file, &words[a..b], &words[c..d], rec, index)
+    boundary::constant(lookup::pool(file, &words[a..b], &words[c..d], rec, index))
 }
 
 // Whether a lookup in nine tables answers as stored at a place, behind the record and the index.
@@ -710,303 +710,7 @@ fn replay(all: &[u8]) {
     }
 }
 
-// A call on a file over tables of one row each.
-fn over_one_row(kind: u32, file: &[u8], choices: &[u8]) -> [u32; 10] {
-    let one_row = [
-        0u8,
-        0,
-        0,
-        19,
-        0,
-        0,
-        0,
-        4,
-        0,
-        0,
-        0,
-        3,
-        0,
-        0,
-        0,
-        2,
-        0,
-        0,
-        0,
-        2,
-        0,
-        0,
-        0,
-        1,
-        0,
-        0,
-        0,
-        2,
-        0,
-        0,
-        0,
-        4,
-        0,
-        0,
-        0,
-        2,
-    ];
-    let o = call_sized(kind, file, &one_row, 0, 2, choices);
-    o.numbers
-}
-
-// A file loaded: the answer and the number of records.
-fn sample(file: &[u8]) {
-    let n = over_one_row(2, file, &file[0..0]);
-    io::write_all(STDOUT_FILENO, b"sample: answer");
-    print_number(n[0]);
-    io::write_all(STDOUT_FILENO, b", records");
-    print_number(n[1]);
-    io::write_all(STDOUT_FILENO, b"\n");
-}
-
-// A file examined: the answer.
-fn examined(file: &[u8]) {
-    let n = over_one_row(7, file, &file[0..0]);
-    io::write_all(STDOUT_FILENO, b"sample: examination");
-    print_number(n[0]);
-    io::write_all(STDOUT_FILENO, b"\n");
-}
-
-// A file followed along choices: whether the run is finished, and the top frame.
-fn followed(file: &[u8], choices: &[u8]) {
-    let n = over_one_row(8, file, choices);
-    io::write_all(STDOUT_FILENO, b"sample: answer");
-    print_number(n[0]);
-    io::write_all(STDOUT_FILENO, b", finished");
-    print_number(n[1]);
-    io::write_all(STDOUT_FILENO, b", record");
-    print_number(n[2]);
-    io::write_all(STDOUT_FILENO, b", offset");
-    print_number(n[3]);
-    io::write_all(STDOUT_FILENO, b"\n");
-}
-
-// Paper 01's File A; with three and with four zero bytes behind it; then END alone behind its header, of size 12 and of size 0, and cut.
-// The file with END of size 12 is examined too; File A is followed going on once, then twice; a record that jumps below its start is examined.
-fn samples() {
-    let a = [
-        82u8,
-        73,
-        84,
-        69,
-        48,
-        52,
-        48,
-        48,
-        0,
-        0,
-        0,
-        64,
-        0,
-        0,
-        0,
-        0,
-        0,
-        0,
-        0,
-        0,
-        73,
-        82,
-        69,
-        80,
-        0,
-        0,
-        0,
-        36,
-        0,
-        0,
-        0,
-        0,
-        0,
-        0,
-        0,
-        24,
-        0,
-        1,
-        0,
-        2,
-        0,
-        0,
-        0,
-        0,
-        0,
-        0,
-        0,
-        4,
-        17,
-        1,
-        61,
-        1,
-        0,
-        0,
-        0,
-        0,
-        69,
-        78,
-        68,
-        0,
-        0,
-        0,
-        0,
-        8,
-        0,
-        0,
-        0,
-        0,
-    ];
-    sample(&a[..64]);
-    sample(&a[..67]);
-    sample(&a);
-    let end = [
-        82u8,
-        73,
-        84,
-        69,
-        48,
-        52,
-        48,
-        48,
-        0,
-        0,
-        0,
-        64,
-        0,
-        0,
-        0,
-        0,
-        0,
-        0,
-        0,
-        0,
-        69,
-        78,
-        68,
-        0,
-        0,
-        0,
-        0,
-        12,
-        0,
-        0,
-        0,
-        0,
-    ];
-    sample(&end);
-    let never = [
-        82u8,
-        73,
-        84,
-        69,
-        48,
-        52,
-        48,
-        48,
-        0,
-        0,
-        0,
-        64,
-        0,
-        0,
-        0,
-        0,
-        0,
-        0,
-        0,
-        0,
-        69,
-        78,
-        68,
-        0,
-        0,
-        0,
-        0,
-        0,
-        0,
-        0,
-        0,
-        0,
-    ];
-    sample(&never);
-    sample(&end[..31]);
-    examined(&end);
-    let on = [0u8, 0];
-    followed(&a[..64], &on[..1]);
-    followed(&a[..64], &on);
-    let jump = [
-        82u8,
-        73,
-        84,
-        69,
-        48,
-        52,
-        48,
-        48,
-        0,
-        0,
-        0,
-        63,
-        0,
-        0,
-        0,
-        0,
-        0,
-        0,
-        0,
-        0,
-        73,
-        82,
-        69,
-        80,
-        0,
-        0,
-        0,
-        35,
-        0,
-        0,
-        0,
-        0,
-        0,
-        0,
-        0,
-        23,
-        0,
-        1,
-        0,
-        2,
-        0,
-        0,
-        0,
-        0,
-        0,
-        0,
-        0,
-        3,
-        38,
-        255,
-        252,
-        0,
-        0,
-        0,
-        0,
-        69,
-        78,
-        68,
-        0,
-        0,
-        0,
-        0,
-        8,
-    ];
-    examined(&jump);
-}
-
 fn main() {
-    samples();
     let mut all = [0u8; 524288];
     let n = io::read_full(STDIN_FILENO, &mut all);
     replay(&all[..n]);

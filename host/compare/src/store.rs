@@ -70,6 +70,7 @@ pub fn write(args: &Args) -> Result<(), Stop> {
     let path = args.text("-o").ok_or(Stop::Usage("-o is missing".into()))?;
     let mut store = Store::default();
     let mut counts = Counts::default();
+    samples(&mut store).map_err(Stop::Difference)?;
     loads(&mut store, seed, count as usize, &mut counts).map_err(Stop::Difference)?;
     fetches(&mut store, seed).map_err(Stop::Difference)?;
     maps(&mut store, seed);
@@ -108,6 +109,21 @@ impl Store {
             [&words[..], &[refusal], &numbers[..], &[sum]].concat(),
         );
     }
+
+    fn follow(
+        &mut self,
+        sizes: &Sizes,
+        answer: &Follow,
+        tables: &Tables,
+        frames: &[u32],
+        choices: &[u8],
+    ) {
+        let sum = sum(tables, frames);
+        self.call(8, sizes, answer.refusal, &nine(answer), sum);
+        self.bytes.extend((frames.len() as u32).to_be_bytes());
+        self.bytes.extend((choices.len() as u32).to_be_bytes());
+        self.bytes.extend(choices);
+    }
 }
 
 /// The sum of the words of nine tables and of the frame table.
@@ -121,6 +137,86 @@ fn nine(followed: &Follow) -> [u32; 9] {
     let mut nine = [0; 9];
     nine[..6].copy_from_slice(&followed.numbers);
     nine
+}
+
+/// Paper 01's File A: 64 bytes.
+fn file_a() -> Vec<u8> {
+    let mut file = b"RITE0400\0\0\0\x40\0\0\0\0\0\0\0\0".to_vec();
+    file.extend(b"IREP\0\0\0\x24\0\0\0\0");
+    file.extend([0, 0, 0, 24, 0, 1, 0, 2, 0, 0, 0, 0, 0, 0, 0, 4]);
+    file.extend([17, 1, 61, 1, 0, 0, 0, 0]);
+    file.extend(b"END\0\0\0\0\x08");
+    file
+}
+
+/// Paper 01's samples of loading, examination and runs that are run by a program, with the paper's own answers.
+fn samples(store: &mut Store) -> Result<(), String> {
+    let a = file_a();
+    let followed_by = |zeros: usize| [&a[..], &vec![0; zeros]].concat();
+    let end_alone = |size: u8| [&a[..20], b"END\0\0\0\0", &[size], &[0; 4]].concat();
+    let mut jump = [&a[..48], &[38, 255, 252], &a[52..]].concat();
+    jump[11] = 63;
+    jump[27] = 35;
+    jump[35] = 23;
+    jump[47] = 3;
+    for (file, refusal, records) in [
+        (followed_by(0), 0, 1),
+        (followed_by(3), 0, 1),
+        (followed_by(4), 5, 0),
+        (end_alone(12), 0, 0),
+        (end_alone(0), 8, 0),
+        (end_alone(12)[..31].to_vec(), 4, 0),
+    ] {
+        sample(store, 2, &file, refusal, records)?;
+    }
+    sample(store, 7, &end_alone(12), 15, 0)?;
+    sample(store, 7, &jump, 18, 0)?;
+    sample_run(store, &a, &[0], [0, 0, 2, 0, 0, 1])?;
+    sample_run(store, &a, &[0, 0], [1, 0, 0, 0, 0, 0])?;
+    store.bytes(6, b"samples of the paper");
+    Ok(())
+}
+
+/// A load or an examination over tables of one row each: the refusal's number or 0, and the records.
+fn sample(
+    store: &mut Store,
+    kind: u32,
+    file: &[u8],
+    refusal: u32,
+    records: u32,
+) -> Result<(), String> {
+    let sizes = Sizes::of_rows([1; 9]);
+    let mut tables = garbage(&sizes, &mut Rng::new(0, 0));
+    let answer = match kind {
+        2 => Model.load(file, &mut tables),
+        _ => Model.examine(file, &mut tables),
+    };
+    let rows = [records, 0, 0, 0, 0, 0, 0, 0, 0];
+    if answer != (Answer { refusal, rows }) {
+        return Err(format!("a sample's answer is {answer:?}"));
+    }
+    store.bytes(1, file);
+    store.call(kind, &sizes, refusal, &rows, sum(&tables, &[]));
+    Ok(())
+}
+
+/// A run that is not refused, with place for one frame.
+fn sample_run(
+    store: &mut Store,
+    file: &[u8],
+    choices: &[u8],
+    numbers: [u32; 6],
+) -> Result<(), String> {
+    let sizes = Sizes::of_rows([1; 9]);
+    let mut tables = garbage(&sizes, &mut Rng::new(0, 0));
+    let mut frames = vec![1; 2];
+    let answer = Model.follow(file, &mut tables, &mut frames, choices);
+    if (answer.refusal, answer.numbers) != (0, numbers) {
+        return Err(format!("a sample's answer is {answer:?}"));
+    }
+    store.bytes(1, file);
+    store.follow(&sizes, &answer, &tables, &frames, choices);
+    Ok(())
 }
 
 /// The corpus, then generated files by their answer: two in five load, the others are spread over the refusals.
@@ -260,11 +356,7 @@ fn runs(store: &mut Store, file: &[u8], number: usize, rng: &mut Rng) -> Result<
         let mut tables = garbage(&sizes, rng);
         let mut frames = vec![1; words];
         let followed = Model.follow(file, &mut tables, &mut frames, &choices);
-        let sum = sum(&tables, &frames);
-        store.call(8, &sizes, followed.refusal, &nine(&followed), sum);
-        store.bytes.extend((words as u32).to_be_bytes());
-        store.bytes.extend((choices.len() as u32).to_be_bytes());
-        store.bytes.extend(choices);
+        store.follow(&sizes, &followed, &tables, &frames, &choices);
     }
     Ok(())
 }
@@ -654,16 +746,6 @@ mod tests {
             assert!(replay_items(&Model, &changed).is_err(), "{place}");
         }
         assert!(replay_items(&Model, &bytes[..bytes.len() - 4]).is_err());
-    }
-
-    /// Paper 01's File A: 64 bytes.
-    fn file_a() -> Vec<u8> {
-        let mut file = b"RITE0400\0\0\0\x40\0\0\0\0\0\0\0\0".to_vec();
-        file.extend(b"IREP\0\0\0\x24\0\0\0\0");
-        file.extend([0, 0, 0, 24, 0, 1, 0, 2, 0, 0, 0, 0, 0, 0, 0, 4]);
-        file.extend([17, 1, 61, 1, 0, 0, 0, 0]);
-        file.extend(b"END\0\0\0\0\x08");
-        file
     }
 
     #[test]
