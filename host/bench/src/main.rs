@@ -78,12 +78,18 @@ fn ladder_of_sizes(rounds: usize) {
 /// The choices that follow is timed with.
 const CHOICES: [u8; 16] = [0, 0, 2, 0, 0, 0, 1, 0, 0, 2, 0, 0, 0, 0, 4, 0];
 
+/// The tables that the host lends for a file, loaded.
+fn lent_for(file: &[u8]) -> Words {
+    blotheath::tables::lend(file, |words| {
+        let loaded = blotheath::ffi::load(file, words);
+        (loaded.refusal, ())
+    })
+    .0
+}
+
 /// Prints the medians of all calls over some files.
 fn table(files: &[Vec<u8>], rounds: usize) {
-    let mut lent: Vec<Words> = files
-        .iter()
-        .map(|file| blotheath::tables::zeros(file.len(), 1))
-        .collect();
+    let mut lent: Vec<Words> = files.iter().map(|file| lent_for(file)).collect();
     let mut again = lent.clone();
     let mut examined = lent.clone();
     let mut followed = lent.clone();
@@ -95,8 +101,7 @@ fn table(files: &[Vec<u8>], rounds: usize) {
     };
     let mut load_new = || {
         for file in files {
-            let mut words = blotheath::tables::zeros(file.len(), 1);
-            timing::keep(blotheath::ffi::load(file, &mut words));
+            timing::keep(lent_for(file));
         }
     };
     let mut load_cleared = || {
