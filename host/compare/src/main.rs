@@ -32,7 +32,8 @@ compare line [--maps N] [--seed S]            maps and positions, falling ones t
 compare lookup [--tables N] [--seed S]        lookups in the tables of loads and in any tables
 compare examine [--files N] [--seed S]        examinations of the corpus and of generated files
 compare follow [--files N] [--seed S]         runs along any choices
-compare store --seed S --count N -o FILE      writes stored reference answers
+compare store --seed S --count N --calls FILE --lookups FILE
+                                              writes stored reference answers
 compare replay PATH..                         replays stored reference answers
 compare bench [--rounds N]                    times of the port's load and the original's, with the feature port
 

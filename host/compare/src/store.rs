@@ -1,4 +1,5 @@
-//! Stored reference answers: written here, replayed by a program that has neither the original nor the model (crates/replay).
+//! Stored reference answers: written here, replayed by programs that have neither the original nor the model: crates/replay for load,
+//! examination and follow, crates/replay_lookups for fetch, line lookups and lookups.
 //!
 //! # The form
 //!
@@ -63,24 +64,22 @@ const MOST_WORDS: usize = 512;
 
 /// `compare store`
 pub fn write(args: &Args) -> Result<(), Stop> {
-    args.only(&["--seed", "--count", "-o"])
+    args.only(&["--seed", "--count", "--calls", "--lookups"])
         .map_err(Stop::Usage)?;
     let seed = args.number("--seed", 1).map_err(Stop::Usage)?;
     let count = args.number("--count", 200).map_err(Stop::Usage)?;
-    let path = args.text("-o").ok_or(Stop::Usage("-o is missing".into()))?;
-    let mut store = Store::default();
     let mut counts = Counts::default();
-    samples(&mut store).map_err(Stop::Difference)?;
-    loads(&mut store, seed, count as usize, &mut counts).map_err(Stop::Difference)?;
-    fetches(&mut store, seed).map_err(Stop::Difference)?;
-    maps(&mut store, seed);
-    examinable_files(&mut store, seed)?;
-    looked_up(&mut store, seed)?;
-    store.item(0, []);
-    fs::write(path, &store.bytes).map_err(|error| Stop::Usage(format!("{path}: {error}")))?;
+    let mut calls = Store::default();
+    samples(&mut calls).map_err(Stop::Difference)?;
+    loads(&mut calls, seed, count as usize, &mut counts).map_err(Stop::Difference)?;
+    examinable_files(&mut calls, seed)?;
+    let mut lookups = Store::default();
+    fetches(&mut lookups, seed).map_err(Stop::Difference)?;
+    maps(&mut lookups, seed);
+    looked_up(&mut lookups, seed)?;
     print!("{}", counts.words());
-    println!("stored: {} bytes", store.bytes.len());
-    Ok(())
+    calls.end(args, "--calls")?;
+    lookups.end(args, "--lookups")
 }
 
 #[derive(Default)]
@@ -99,6 +98,17 @@ impl Store {
     fn bytes(&mut self, kind: u32, bytes: &[u8]) {
         self.item(kind, [bytes.len() as u32]);
         self.bytes.extend(bytes);
+    }
+
+    /// Ends the items and writes them to the path that an option names.
+    fn end(mut self, args: &Args, option: &str) -> Result<(), Stop> {
+        let path = args
+            .text(option)
+            .ok_or(Stop::Usage(format!("{option} is missing")))?;
+        self.item(0, []);
+        fs::write(path, &self.bytes).map_err(|error| Stop::Usage(format!("{path}: {error}")))?;
+        println!("{path}: {} bytes", self.bytes.len());
+        Ok(())
     }
 
     /// A load, an examination or the head of a follow.

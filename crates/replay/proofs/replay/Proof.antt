@@ -17,6 +17,7 @@ replay-spec =
     (tie.spec
     Inv-loop
     μ-loop
+    (λ c κs. search needs)
     (λ c. tt)
     (λ c. omega arith)
     (λ c κs. search needs)

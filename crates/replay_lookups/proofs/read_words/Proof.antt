@@ -1,12 +1,12 @@
--- `replay::read_words` is safe and ends.
+-- `replay_lookups::read_words` is safe and ends.
 -- Assumes nothing.
 use Prim.Native.Nat.{_≤_, _-_}
 use mathlib.Core.Path.{_≡_}
 use native.Mathlib.Omega.{arith}
 use lib.ListN.{length, length-set}
 use borrow.Author.Needs.{needs}
-use Rattle.replay.proofs.read_words.Statement.{statement}
-use Rattle.replay.proofs.read_words.Tie as tie
+use Rattle.replay_lookups.proofs.read_words.Statement.{statement}
+use Rattle.replay_lookups.proofs.read_words.Tie as tie
 
 abbrev Inv-loop : tie.InvT-loop
 Inv-loop words₀ all at place₀ i₀ words place i = (length words ≡ length words₀) × (i ≤ length words)

@@ -1,11 +1,11 @@
--- `replay::table_start` is safe and ends, and its place is among the words.
+-- `replay_lookups::table_start` is safe and ends, and its place is among the words.
 -- Assumes nothing.
 use Prim.Native.Nat.{_≤_, _-_}
 use lib.ListN.{length}
 use native.Mathlib.Omega.{arith}
 use borrow.Author.Needs.{needs}
-use Rattle.replay.proofs.table_start.Statement.{statement}
-use Rattle.replay.proofs.table_start.Tie as tie
+use Rattle.replay_lookups.proofs.table_start.Statement.{statement}
+use Rattle.replay_lookups.proofs.table_start.Tie as tie
 
 abbrev Inv-loop : tie.InvT-loop
 Inv-loop words table at₀ i₀ at i = at ≤ length words
