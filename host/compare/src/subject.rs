@@ -55,7 +55,7 @@ pub struct Found {
 }
 
 impl Found {
-    fn of<const N: usize>(fields: [u32; N]) -> Found {
+    pub fn of<const N: usize>(fields: [u32; N]) -> Found {
         let mut found = Found::default();
         for (number, field) in found.numbers.iter_mut().zip(fields) {
             *number = field.into();
