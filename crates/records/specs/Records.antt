@@ -1,0 +1,45 @@
+-- Record rows as structs, and what the words of a record table say of them.
+-- Assumes nothing.
+use Prim.Native.Nat.{ℕ}
+use mathlib.Core.Bool.{cond}
+use mathlib.Core.List.{List, []}
+use Rattle.format.specs.Rows.{RecordRow}
+use Rattle.format.specs.Line.{rowsFrom}
+use Rattle.format.specs.Lookup.{recordRowAt, hasRow}
+use Rattle.records.specs.declared.Record.{Record}
+
+-- the struct of a row
+abbrev pub structOf : RecordRow → Record
+structOf r =
+    record {
+      size = r .size;
+      nlocals = r .nlocals;
+      nregs = r .nregs;
+      rlen = r .rlen;
+      clen = r .clen;
+      ilen = r .ilen;
+      place = r .place;
+      handlers = r .handlers .first;
+      nhandlers = r .handlers .number;
+      pool = r .pool .first;
+      npool = r .pool .number;
+      symbols = r .symbols .first;
+      nsymbols = r .symbols .number;
+      names = r .names .first;
+      nnames = r .names .number;
+      files = r .files .first;
+      nfiles = r .files .number;
+      lines = r .lines .first;
+      nlines = r .lines .number;
+    }
+
+unfoldable pub zeroRow : Record
+zeroRow = structOf (recordRowAt [] 0)
+
+-- row i of a record table, and zeros past its last whole row
+unfoldable pub rowAt : List ℕ → ℕ → Record
+rowAt t i = cond (hasRow 19 t i) (structOf (recordRowAt t i)) zeroRow
+
+-- its first n rows
+abbrev pub rowsOf : List ℕ → ℕ → List Record
+rowsOf t n = rowsFrom (rowAt t) 0 n
