@@ -1,0 +1,28 @@
+-- The parts that `part` and `fetch_in` cut are those of the definitions.
+-- Assumes nothing.
+use Prim.Native.Nat.{ℕ, _+_, _-_, _≤_, _<_}
+use native.Mathlib.Nat.{add-sub-cancel-left, le-of-eq}
+use mathlib.Core.Path.{_≡_, refl}
+use mathlib.Core.List.{List, []}
+use lib.ListN.{length, take, drop, length-drop, drop-of-length-le}
+use lib.Seq.{take-all}
+use borrow.Author.Tests.{le-leb, lt-leb}
+use Rattle.format.specs.Bytes.{refused}
+use Rattle.format.specs.Insn.{fetch}
+use Rattle.view.specs.View.{partOf}
+
+pub outside : (f : List ℕ) (place size : ℕ) → length f < place + size → [] ≡ partOf f place size
+unfolding partOf
+outside f place size h = rw (lt-leb (place + size) (length f) h)
+
+pub inside : (f : List ℕ) (place size : ℕ) → place + size ≤ length f → take (place + size - place) (drop place f) ≡ partOf f place size
+unfolding partOf
+inside f place size h = rw (le-leb (place + size) (length f) h, add-sub-cancel-left)
+
+-- no byte is left, and all that are left
+pub none-left : (c : List ℕ) (at : ℕ) → length c ≤ at → refused 24 ≡ fetch (drop at c)
+unfolding fetch
+none-left c at h = rw (drop-of-length-le c h)
+
+pub all-left : (c : List ℕ) (at : ℕ) → take (length c - at) (drop at c) ≡ drop at c
+all-left c at = take-all (length c - at) (drop at c) (le-of-eq (length-drop at c))
