@@ -2,7 +2,7 @@
 -- Assumes nothing.
 use Prim.Native.Nat.{ℕ}
 use mathlib.Core.Bool.{cond}
-use mathlib.Core.List.{List, []}
+use mathlib.Core.List.{List, [], _∷_}
 use Rattle.format.specs.Rows.{RecordRow}
 use Rattle.format.specs.Line.{rowsFrom}
 use Rattle.format.specs.Lookup.{recordRowAt, hasRow}
@@ -32,6 +32,18 @@ structOf r =
       lines = r .lines .first;
       nlines = r .lines .number;
     }
+
+-- the words of a struct, in the order of a row's
+abbrev pub structWords : Record → List ℕ
+structWords r =
+    r .size ∷ r .nlocals ∷ r .nregs ∷ r .rlen ∷ r .clen ∷ r .ilen ∷ r .place
+    ∷ r .handlers ∷ r .nhandlers
+    ∷ r .pool ∷ r .npool
+    ∷ r .symbols ∷ r .nsymbols
+    ∷ r .names ∷ r .nnames
+    ∷ r .files ∷ r .nfiles
+    ∷ r .lines ∷ r .nlines
+    ∷ []
 
 unfoldable pub zeroRow : Record
 zeroRow = structOf (recordRowAt [] 0)

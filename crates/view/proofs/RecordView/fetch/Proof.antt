@@ -26,7 +26,7 @@ use denote.Plain.{uint-makes, uint-vals, uint-tells}
 use denote.Builtin.{u8, usize}
 use denote.Ref.{RefT, now}
 use denote.Signature.{namedLft}
-use denote.Slice.{sliceVal, ShrSlice, shr-slice-lawful}
+use denote.Slice.{sliceVal, ShrSlice}
 use denote.Steps.{owned, peeks, heard, nothing}
 use denote.Enum.Laws as EL
 use denote.Struct.Declared.{Declared}
