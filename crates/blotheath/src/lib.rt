@@ -10,6 +10,7 @@ use boundary::BlotheathLookedLine;
 use boundary::BlotheathName;
 use boundary::BlotheathText;
 use line::Pos;
+use records::Record;
 ghost use mathlib.Core.Path.{_≡_};
 ghost use lib.ListN.{length};
 ghost use Rattle.format.specs.Insn.{fetch};
@@ -20,6 +21,7 @@ ghost use Rattle.format.specs.Exam.{examine};
 ghost use Rattle.format.specs.Run.{follow};
 ghost use Rattle.rite.specs.Answers.{words, sizes};
 ghost use Rattle.boundary.specs.Structs.{fetchedIs, lineIs, textIs, handlerIs, constantIs, nameIs, debugFileIs, lookedLineIs};
+ghost use Rattle.records.specs.Records.{rowsOf};
 ghost use Rattle.blotheath.specs.Exported.{exported, loadedIs, ran, ranIs};
 
 // The instruction at the start of these bytes.
@@ -159,6 +161,39 @@ pub extern "C" fn blotheath_load(
         files,
         lines,
     ))
+}
+
+// Loads a file as `blotheath_load` does, and fills lent record rows from the words of the record table.
+#[no_mangle]
+pub extern "C" fn blotheath_load_records(
+    file: &[u8],
+    records: &mut [u32],
+    handlers: &mut [u32],
+    pool: &mut [u32],
+    symbols: &mut [u32],
+    strings: &mut [u32],
+    names: &mut [u32],
+    filenames: &mut [u32],
+    files: &mut [u32],
+    lines: &mut [u32],
+    rows: &mut [Record],
+) -> BlotheathLoaded
+    ensures { λ r. ⌜ (exported r (words (now (records .exit)) (now (handlers .exit)) (now (pool .exit)) (now (symbols .exit)) (now (strings .exit)) (now (names .exit)) (now (filenames .exit)) (now (files .exit)) (now (lines .exit))) ≡ loadedIs (load (now (file .entry)) (sizes (words (now (records .entry)) (now (handlers .entry)) (now (pool .entry)) (now (symbols .entry)) (now (strings .entry)) (now (names .entry)) (now (filenames .entry)) (now (files .entry)) (now (lines .entry)))))) × (now (rows .exit) ≡ rowsOf (now (records .exit)) (length (now (rows .entry)))) ⌝ }
+{
+    let loaded = blotheath_load(
+        file,
+        records,
+        handlers,
+        pool,
+        symbols,
+        strings,
+        names,
+        filenames,
+        files,
+        lines,
+    );
+    records::fill(rows, records);
+    loaded
 }
 
 // Examines a file over nine lent tables.
