@@ -65,6 +65,45 @@ BlotheathLoaded blotheath_load(const uint8_t *file, size_t file_len,
                                uint32_t *files, size_t files_len,
                                uint32_t *lines, size_t lines_len);
 
+/* A record's row, its 19 words in their order. A kind's name is the first of the record's rows of that kind, and n before the name their
+   number. */
+typedef struct {
+    uint32_t size;
+    uint32_t nlocals;
+    uint32_t nregs;
+    uint32_t rlen;
+    uint32_t clen;
+    uint32_t ilen;
+    uint32_t place;
+    uint32_t handlers;
+    uint32_t nhandlers;
+    uint32_t pool;
+    uint32_t npool;
+    uint32_t symbols;
+    uint32_t nsymbols;
+    uint32_t names;
+    uint32_t nnames;
+    uint32_t files;
+    uint32_t nfiles;
+    uint32_t lines;
+    uint32_t nlines;
+} BlotheathRecord;
+
+/* Loads as blotheath_load does, with the same answer, refusals and tables, and then fills lent rows, which must not overlap the tables: row i is
+   what the words of record i say, and zeros past the last record, so after a refusal every row is zeros. The length is in rows. Fewer rows than
+   records hold the first ones, and that is no refusal. */
+BlotheathLoaded blotheath_load_records(const uint8_t *file, size_t file_len,
+                                       uint32_t *records, size_t records_len,
+                                       uint32_t *handlers, size_t handlers_len,
+                                       uint32_t *pool, size_t pool_len,
+                                       uint32_t *symbols, size_t symbols_len,
+                                       uint32_t *strings, size_t strings_len,
+                                       uint32_t *names, size_t names_len,
+                                       uint32_t *filenames, size_t filenames_len,
+                                       uint32_t *files, size_t files_len,
+                                       uint32_t *lines, size_t lines_len,
+                                       BlotheathRecord *rows, size_t rows_len);
+
 /* Examines a file: loads it as above, then tests it. Beside a load's refusals:
    15  the tree of records is not whole
    16  in a record, an opcode above 118, a prefix opcode, a cut instruction, or no instruction at all

@@ -8,6 +8,33 @@ pub struct BlotheathLoaded {
     pub rows: [u32; 9],
 }
 
+/// A record's row, its words in their order.
+///
+/// A kind's name is the first of the record's rows of that kind, and n before the name their number.
+#[repr(C)]
+#[derive(Debug, Clone, Copy, PartialEq, Default)]
+pub struct BlotheathRecord {
+    pub size: u32,
+    pub nlocals: u32,
+    pub nregs: u32,
+    pub rlen: u32,
+    pub clen: u32,
+    pub ilen: u32,
+    pub place: u32,
+    pub handlers: u32,
+    pub nhandlers: u32,
+    pub pool: u32,
+    pub npool: u32,
+    pub symbols: u32,
+    pub nsymbols: u32,
+    pub names: u32,
+    pub nnames: u32,
+    pub files: u32,
+    pub nfiles: u32,
+    pub lines: u32,
+    pub nlines: u32,
+}
+
 /// Where a run stands.
 #[repr(C)]
 #[derive(Debug, Clone, Copy, PartialEq, Default)]

@@ -1,7 +1,7 @@
 //! The functions of ffi.rs answered by host/model, for work without the archive.
 
 use crate::answer::*;
-use crate::tables::Words;
+use crate::tables::{RECORDS, Words};
 use model::{Constant, Sizes};
 
 /// Whether the answers are those of the proved archive.
@@ -24,6 +24,39 @@ fn give(loaded: model::Loaded, words: &mut Words) -> BlotheathLoaded {
 
 pub fn load(file: &[u8], words: &mut Words) -> BlotheathLoaded {
     give(model::load(file, &take(words)), words)
+}
+
+pub fn load_records(
+    file: &[u8],
+    words: &mut Words,
+    rows: &mut [BlotheathRecord],
+) -> BlotheathLoaded {
+    let loaded = load(file, words);
+    rows.fill(BlotheathRecord::default());
+    for (row, w) in rows.iter_mut().zip(words[RECORDS].chunks_exact(19)) {
+        *row = BlotheathRecord {
+            size: w[0],
+            nlocals: w[1],
+            nregs: w[2],
+            rlen: w[3],
+            clen: w[4],
+            ilen: w[5],
+            place: w[6],
+            handlers: w[7],
+            nhandlers: w[8],
+            pool: w[9],
+            npool: w[10],
+            symbols: w[11],
+            nsymbols: w[12],
+            names: w[13],
+            nnames: w[14],
+            files: w[15],
+            nfiles: w[16],
+            lines: w[17],
+            nlines: w[18],
+        };
+    }
+    loaded
 }
 
 pub fn examine(file: &[u8], words: &mut Words) -> BlotheathLoaded {

@@ -35,6 +35,30 @@ unsafe extern "C" {
         lines: *mut u32,
         lines_len: usize,
     ) -> BlotheathLoaded;
+    fn blotheath_load_records(
+        file: *const u8,
+        file_len: usize,
+        records: *mut u32,
+        records_len: usize,
+        handlers: *mut u32,
+        handlers_len: usize,
+        pool: *mut u32,
+        pool_len: usize,
+        symbols: *mut u32,
+        symbols_len: usize,
+        strings: *mut u32,
+        strings_len: usize,
+        names: *mut u32,
+        names_len: usize,
+        filenames: *mut u32,
+        filenames_len: usize,
+        files: *mut u32,
+        files_len: usize,
+        lines: *mut u32,
+        lines_len: usize,
+        rows: *mut BlotheathRecord,
+        rows_len: usize,
+    ) -> BlotheathLoaded;
     fn blotheath_examine(
         file: *const u8,
         file_len: usize,
@@ -192,6 +216,52 @@ pub fn load(file: &[u8], words: &mut Words) -> BlotheathLoaded {
             files.len(),
             lines.as_mut_ptr(),
             lines.len(),
+        )
+    }
+}
+
+/// Loads a file over lent tables, and fills lent rows: those of the record table that they have place for, then rows of zeros.
+pub fn load_records(
+    file: &[u8],
+    words: &mut Words,
+    rows: &mut [BlotheathRecord],
+) -> BlotheathLoaded {
+    let [
+        records,
+        handlers,
+        pool,
+        symbols,
+        strings,
+        names,
+        filenames,
+        files,
+        lines,
+    ] = words;
+    // SAFETY: each pointer goes with the length of its own slice, and no two of these slices overlap.
+    unsafe {
+        blotheath_load_records(
+            file.as_ptr(),
+            file.len(),
+            records.as_mut_ptr(),
+            records.len(),
+            handlers.as_mut_ptr(),
+            handlers.len(),
+            pool.as_mut_ptr(),
+            pool.len(),
+            symbols.as_mut_ptr(),
+            symbols.len(),
+            strings.as_mut_ptr(),
+            strings.len(),
+            names.as_mut_ptr(),
+            names.len(),
+            filenames.as_mut_ptr(),
+            filenames.len(),
+            files.as_mut_ptr(),
+            files.len(),
+            lines.as_mut_ptr(),
+            lines.len(),
+            rows.as_mut_ptr(),
+            rows.len(),
         )
     }
 }
