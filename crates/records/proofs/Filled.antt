@@ -29,8 +29,8 @@ module _ (ws : List ℕ) (ys : List Record) where
   unfolding upTo
   up-to-more i h =
       ap (λ l. set (rowsOf ws i ++ l) i (rowAt ws i)) (drop-cons ys i zeroRow h)
-      ∙ set-at (rowsOf ws i) _ (drop (suc i) ys) (rowAt ws i) i (rowsFrom-length (rowAt ws) 0 i)
-      ∙ sym (ap (λ l. l ++ drop (suc i) ys) (rowsFrom-last (rowAt ws) 0 i) ∙ rw zero-add (append-assoc (rowsOf ws i) (rowAt ws i ∷ []) (drop (suc i) ys)))
+      ∙ set-at (rowsOf ws i) _ (drop (suc i) ys) (rowAt ws i) i (rowsFrom-length (rowAt ws) _ i)
+      ∙ sym (ap (λ l. l ++ drop (suc i) ys) (rowsFrom-last (rowAt ws) _ i) ∙ rw zero-add (append-assoc (rowsOf ws i) (rowAt ws i ∷ []) (drop (suc i) ys)))
 
   pub up-to-all : upTo (length ys) ≡ rowsOf ws (length ys)
   unfolding upTo
