@@ -1,5 +1,6 @@
 -- `records::fill` meets its contract: a walk of its MIR, by hand, with a loop and a call in its turn. The invariant has the borrow closed, at i rows of the words and the rest as it was (`Filled.antt`'s `upTo`).
--- A turn calls `row_at`, opens the borrow, stores the row whole, and closes the borrow. All that the proof knows of `row_at` is that it meets its contract. Nothing here names a field of the struct. Assumes nothing.
+-- A turn calls `row_at`, opens the borrow, stores the row whole, and closes the borrow. All that the proof knows of `row_at` is that it meets its contract. Nothing here names a field of the struct.
+-- Assumes nothing.
 use mathlib.Core.Path.{_≡_, refl, sym, _∙_, ap, subst}
 use Prim.Native.Nat.{ℕ, zero, suc, _+_, _<_, _^_}
 use native.Mathlib.Nat.{add-zero, zero-add}

@@ -1,4 +1,5 @@
--- `view::fetch_at` meets its contract: a walk of its MIR, by hand. A view that one call returns is held in a local and passed to the next. Its own contract says nothing of a view, so its callers are covered. Assumes nothing.
+-- `view::fetch_at` meets its contract: a walk of its MIR, by hand. A view that one call returns is held in a local and passed to the next. Its own contract says nothing of a view, so its callers are covered.
+-- Assumes nothing.
 use mathlib.Core.Path.{_≡_, refl, ap, _∙_}
 use Prim.Native.Nat.{ℕ, _<_, _^_}
 use mathlib.Core.List.{List, [], _∷_}

@@ -1,4 +1,5 @@
--- `view::RecordView::bytes` meets its contract: a walk of its MIR, by hand. The struct is taken apart, and `part` is called on its fields, in their order. Assumes nothing.
+-- `view::RecordView::bytes` meets its contract: a walk of its MIR, by hand. The struct is taken apart, and `part` is called on its fields, in their order.
+-- Assumes nothing.
 use mathlib.Core.Path.{_≡_, refl}
 use Prim.Native.Nat.{ℕ}
 use mathlib.Core.List.{List, [], _∷_}

@@ -1,4 +1,5 @@
--- `view::RecordView::fetch` meets its contract: a walk of its MIR, by hand. The struct is taken apart, and `fetch_in` is called on its fields and the offset. Assumes nothing.
+-- `view::RecordView::fetch` meets its contract: a walk of its MIR, by hand. The struct is taken apart, and `fetch_in` is called on its fields and the offset.
+-- Assumes nothing.
 use mathlib.Core.Path.{_≡_, refl}
 use Prim.Native.Nat.{ℕ, _<_, _^_}
 use mathlib.Core.List.{List, [], _∷_}
