@@ -20,9 +20,9 @@ use Rattle.runs.proofs.Begins.{reach-inside}
 use Rattle.runs.proofs.Safe.{Safe, move-safe, keeps-step}
 use Rattle.runs.proofs.Frame.{stack-few}
 use Rattle.exam.specs.View.{codeAt, entries, recordAt, patternAt, rlensAt, RowFits, Ready}
-use Rattle.run.specs.Part.{partAt}
+use Rattle.moves.specs.Part.{partAt}
 use Rattle.run.specs.Frames.{framesOf, Held}
-use Rattle.run.proofs.Moves.{move-part}
+use Rattle.moves.proofs.Moves.{move-part}
 use Rattle.run.proofs.View.{pattern-length, record-is, rlens-are}
 use Rattle.run.proofs.Tables.{push, pop, frames-cons, frames-none}
 use Rattle.run.proofs.Tables as tables

@@ -1,4 +1,4 @@
--- The pattern that the lent tables hold, by its records and rlens; and the parts of the file and of the line table that the code takes.
+-- The pattern that the lent tables hold, by its records and rlens; and the part of the line table that the code takes.
 -- Assumes nothing.
 use Prim.Native.Nat.{ℕ, zero, suc, _+_, _-_, _*_, _/_, _≤_, _<_}
 use native.Mathlib.Nat.{add-zero, zero-add}
@@ -12,7 +12,7 @@ use Rattle.format.specs.Line.{rowsFrom, lineRowAt, mapOf, lineAt}
 use Rattle.format.specs.Lookup.{word}
 use Rattle.format.specs.Pattern.{Record, blank, recAt, rlens}
 use Rattle.format.proofs.RowsFrom.{rowsFrom-length, rowsFrom-at}
-use Rattle.exam.specs.View.{codeAt, entries, recordAt, patternAt, rlensAt}
+use Rattle.exam.specs.View.{entries, recordAt, patternAt, rlensAt}
 
 rowsFrom-map : {A B : Type 0} (f : ℕ → A) (g : A → B) (i n : ℕ) → map g (rowsFrom f i n) ≡ rowsFrom (λ (j : ℕ). g (f j)) i n
 unfolding rowsFrom
@@ -40,10 +40,6 @@ module _ (f recs hs ls : List ℕ) (n : ℕ) where
 
   pub rlens-are : rlens (patternAt f recs hs ls n) ≡ rlensAt recs n
   rlens-are = rowsFrom-map (recordAt f recs hs ls) (λ (r : Record). r .rlen) 0 n
-
--- the part of the file that is a record's instruction bytes
-pub code-is : (f recs : List ℕ) (r a n : ℕ) → a ≡ word 19 recs r 6 → n ≡ word 19 recs r 5 → take (a + n - a) (drop a f) ≡ codeAt f recs r
-code-is f recs r a n p q = let d : a + n - a ≡ n = omega arith in rw (d, p, q)
 
 -- the part of the line table that is a record's map
 pub map-is : (ls : List ℕ) (i n : ℕ) → (i + n) * 2 ≤ length ls → mapOf (take ((i + n) * 2 - i * 2) (drop (i * 2) ls)) ≡ entries ls i n

@@ -14,8 +14,8 @@ use Rattle.runs.proofs.Choices.{read-end}
 use Rattle.runs.proofs.Exact.{good-file}
 use Rattle.runs.proofs.Frame.{run-stack}
 use Rattle.exam.specs.View.{patternAt, Ready}
-use Rattle.run.specs.declared.Choice.{Choice}
-use Rattle.run.specs.Answers.{choiceOf, NextIs}
+use Rattle.moves.specs.declared.Choice.{Choice}
+use Rattle.moves.specs.Answers.{choiceOf, NextIs}
 use Rattle.run.specs.Frames.{framesOf, Held}
 use Rattle.run.specs.Follow.{Out, out, followOut, after, ranBytes, Ran}
 use Rattle.run.proofs.View.{pattern-length}

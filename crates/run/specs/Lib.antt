@@ -1,4 +1,3 @@
 pub mod Answers
-pub mod Part
 pub mod Frames
 pub mod Follow

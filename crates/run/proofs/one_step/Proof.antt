@@ -3,7 +3,7 @@
 use native.Mathlib.Omega.{arith}
 use Prim.Native.Nat.{_+_, _*_}
 use mathlib.Core.Path.{sym, ap, _∙_}
-use Rattle.run.specs.Answers.{choiceOf, moveOf}
+use Rattle.moves.specs.Answers.{choiceOf, moveOf}
 use Rattle.run.proofs.Steps.{sizes, held-none, inside, row-fits, top-stands, held-gone, to-small, held-to, into-small, into-room, held-into}
 use borrow.Author.Needs.{needs}
 use Rattle.run.proofs.one_step.Statement.{statement}

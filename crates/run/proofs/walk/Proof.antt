@@ -6,8 +6,8 @@ use Prim.Native.Nat.{_-_}
 use mathlib.Core.Path.{_≡_, refl, subst}
 use lib.ListN.{length}
 use Rattle.exam.specs.View.{patternAt}
-use Rattle.run.specs.declared.Read.{Read}
-use Rattle.run.specs.Answers.{ReadAt}
+use Rattle.moves.specs.declared.Read.{Read}
+use Rattle.moves.specs.Answers.{ReadAt}
 use Rattle.run.proofs.Walks.{Walking, walking-start, walking-bad, walking-step, walking-end}
 use Rattle.run.proofs.walk.Statement.{statement}
 use Rattle.run.proofs.walk.Tie as tie

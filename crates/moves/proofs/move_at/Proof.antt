@@ -1,10 +1,10 @@
--- `run::move_at` meets its contract.
+-- `moves::move_at` meets its contract.
 -- Assumes nothing.
 use Rattle.exam.specs.View.{targets}
-use Rattle.run.proofs.Moves.{by-on, by-jump, by-enter, by-caught, by-leave}
+use Rattle.moves.proofs.Moves.{by-on, by-jump, by-enter, by-caught, by-leave}
 use borrow.Author.Needs.{needs}
-use Rattle.run.proofs.move_at.Statement.{statement}
-use Rattle.run.proofs.move_at.Tie as tie
+use Rattle.moves.proofs.move_at.Statement.{statement}
+use Rattle.moves.proofs.move_at.Tie as tie
 
 returns : tie.Need-returns
 returns c = let a = c .before .before .before .before .before .args in by-on (a .code .now) (targets (a .handlers .now) (a .first) (a .number)) (a .o) (c .before .enum-told .given .1) (c .go-on .ensures)

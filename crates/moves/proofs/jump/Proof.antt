@@ -1,11 +1,11 @@
--- `run::jump` meets its contract.
+-- `moves::jump` meets its contract.
 -- Assumes nothing.
 use mathlib.Core.Path.{refl, ap, _∙_}
 use Rattle.format.specs.Run.{to}
-use Rattle.run.proofs.Moves.{room, jumps-here, jump-is, jump-on}
+use Rattle.moves.proofs.Moves.{room, jumps-here, jump-is, jump-on}
 use borrow.Author.Needs.{needs}
-use Rattle.run.proofs.jump.Statement.{statement}
-use Rattle.run.proofs.jump.Tie as tie
+use Rattle.moves.proofs.jump.Statement.{statement}
+use Rattle.moves.proofs.jump.Tie as tie
 
 shared-slice-read-op-row : tie.Need-shared-slice-read-op-row
 shared-slice-read-op-row c = room (c .before .before .pre) .inside

@@ -1,11 +1,11 @@
--- `run::enter` meets its contract.
+-- `moves::enter` meets its contract.
 -- Assumes nothing.
 use native.Mathlib.Omega.{arith}
 use mathlib.Core.Path.{refl}
-use Rattle.run.proofs.Moves.{room, childIs, child-inside, enter-is, enter-on}
+use Rattle.moves.proofs.Moves.{room, childIs, child-inside, enter-is, enter-on}
 use borrow.Author.Needs.{needs}
-use Rattle.run.proofs.enter.Statement.{statement}
-use Rattle.run.proofs.enter.Tie as tie
+use Rattle.moves.proofs.enter.Statement.{statement}
+use Rattle.moves.proofs.enter.Tie as tie
 
 shared-slice-read-op-row : tie.Need-shared-slice-read-op-row
 shared-slice-read-op-row c = room (c .before .before .pre) .inside

@@ -1,16 +1,15 @@
--- `run::move_in` meets its contract.
+-- `moves::move_in` meets its contract.
 -- Assumes nothing.
 use native.Mathlib.Omega.{arith}
 use mathlib.Core.Path.{sym, subst}
 use Prim.Native.Nat.{ℕ}
 use mathlib.Core.List.{List}
 use Rattle.runs.specs.Stack.{Stands}
-use Rattle.run.specs.Answers.{choiceOf}
-use Rattle.run.proofs.View.{code-is}
-use Rattle.run.proofs.Moves.{moved-in}
+use Rattle.moves.specs.Answers.{choiceOf}
+use Rattle.moves.proofs.Moves.{code-is, moved-in}
 use borrow.Author.Needs.{needs}
-use Rattle.run.proofs.move_in.Statement.{statement}
-use Rattle.run.proofs.move_in.Tie as tie
+use Rattle.moves.proofs.move_in.Statement.{statement}
+use Rattle.moves.proofs.move_in.Tie as tie
 
 move-at-requires : tie.Need-move-at-requires
 move-at-requires c κs = let a = c .before .before .before .before .before .before .before .before .args in (subst (λ (x : List ℕ). Stands x (a .o)) (sym (code-is (a .file .now) (a .records .now) (a .r) _ _ (c .before .before .before .before .word .ensures .0) (c .before .before .before .word2 .ensures .0))) (c .before .before .before .before .before .before .before .before .pre .1 .1 .1), omega (arith, c .before .before .before .before .before .before .before .before .pre .1 .1 .0, c .before .before .word3 .ensures .0, c .before .word4 .ensures .0))

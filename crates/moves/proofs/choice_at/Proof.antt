@@ -1,11 +1,11 @@
--- `run::choice_at` meets its contract.
+-- `moves::choice_at` meets its contract.
 -- Assumes nothing.
 use mathlib.Core.Path.{refl}
-use Rattle.run.specs.declared.Choice.the-variants.{GoOn, Jump, Enter, Leave}
-use Rattle.run.proofs.Choices.{kind-next, kind-bad}
+use Rattle.moves.specs.declared.Choice.the-variants.{GoOn, Jump, Enter, Leave}
+use Rattle.moves.proofs.Choices.{kind-next, kind-bad}
 use borrow.Author.Needs.{needs}
-use Rattle.run.proofs.choice_at.Statement.{statement}
-use Rattle.run.proofs.choice_at.Tie as tie
+use Rattle.moves.proofs.choice_at.Statement.{statement}
+use Rattle.moves.proofs.choice_at.Tie as tie
 
 returns : tie.Need-returns
 returns c = let a = c .before .before .before .args in kind-next (a .choices .now) (a .i) (c .before .before .before .pre) GoOn 0 (c .match .keys1) refl (λ r. refl)

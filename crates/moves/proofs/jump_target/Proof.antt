@@ -1,11 +1,11 @@
--- `run::jump_target` meets its contract.
+-- `moves::jump_target` meets its contract.
 -- Assumes nothing.
 use native.Mathlib.Omega.{arith}
 use Rattle.runs.proofs.Jumps.{room}
-use Rattle.run.proofs.Moves.{target-low, target-high, not-before}
+use Rattle.moves.proofs.Moves.{target-low, target-high, not-before}
 use borrow.Author.Needs.{needs}
-use Rattle.run.proofs.jump_target.Statement.{statement}
-use Rattle.run.proofs.jump_target.Tie as tie
+use Rattle.moves.proofs.jump_target.Statement.{statement}
+use Rattle.moves.proofs.jump_target.Tie as tie
 
 next-offset-requires : tie.Need-next-offset-requires
 next-offset-requires c κs = (room (c .before .pre) .inside, room (c .before .pre) .whole)

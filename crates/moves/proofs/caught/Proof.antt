@@ -1,11 +1,11 @@
--- `run::caught` meets its contract.
+-- `moves::caught` meets its contract.
 -- Assumes nothing.
 use mathlib.Core.Path.{ap, _∙_}
 use Rattle.format.specs.Run.{to}
-use Rattle.run.proofs.Moves.{caught-is, caught-on}
+use Rattle.moves.proofs.Moves.{caught-is, caught-on}
 use borrow.Author.Needs.{needs}
-use Rattle.run.proofs.caught.Statement.{statement}
-use Rattle.run.proofs.caught.Tie as tie
+use Rattle.moves.proofs.caught.Statement.{statement}
+use Rattle.moves.proofs.caught.Tie as tie
 
 returns : tie.Need-returns
 returns c = let a = c .before .before .before .before .args in ap to (c .word .ensures .0) ∙ caught-is (a .code .now) (a .handlers .now) (a .o) (a .first) (a .number) (a .h) (c .before .if1 .taken)

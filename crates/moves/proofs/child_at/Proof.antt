@@ -1,11 +1,11 @@
--- `run::child_at` meets its contract.
+-- `moves::child_at` meets its contract.
 -- Assumes nothing.
 use borrow.Author.Needs.{needs}
 use native.Mathlib.Omega.{arith}
 use Prim.Native.Nat.{_-_}
-use Rattle.run.proofs.Children.{Seeking, seeking-start, seeking-turn, seeking-none, seeking-end}
-use Rattle.run.proofs.child_at.Statement.{statement}
-use Rattle.run.proofs.child_at.Tie as tie
+use Rattle.moves.proofs.Children.{Seeking, seeking-start, seeking-turn, seeking-none, seeking-end}
+use Rattle.moves.proofs.child_at.Statement.{statement}
+use Rattle.moves.proofs.child_at.Tie as tie
 
 abbrev Inv-loop : tie.InvT-loop
 Inv-loop records n r k i₀ trees₀ i trees = Seeking records n r k i trees

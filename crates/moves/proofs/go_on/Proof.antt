@@ -1,11 +1,11 @@
--- `run::go_on` meets its contract.
+-- `moves::go_on` meets its contract.
 -- Assumes nothing.
 use mathlib.Core.Path.{ap, _∙_}
 use Rattle.format.specs.Run.{to}
-use Rattle.run.proofs.Moves.{room, jumps-here, on-is}
+use Rattle.moves.proofs.Moves.{room, jumps-here, on-is}
 use borrow.Author.Needs.{needs}
-use Rattle.run.proofs.go_on.Statement.{statement}
-use Rattle.run.proofs.go_on.Tie as tie
+use Rattle.moves.proofs.go_on.Statement.{statement}
+use Rattle.moves.proofs.go_on.Tie as tie
 
 shared-slice-read-op-row : tie.Need-shared-slice-read-op-row
 shared-slice-read-op-row c = room (c .before .before .pre) .inside

@@ -1,9 +1,9 @@
--- `run::caught_at` meets its contract.
+-- `moves::caught_at` meets its contract.
 -- Assumes nothing.
-use Rattle.run.proofs.Choices.{caught-bad, caught-next}
+use Rattle.moves.proofs.Choices.{caught-bad, caught-next}
 use borrow.Author.Needs.{needs}
-use Rattle.run.proofs.caught_at.Statement.{statement}
-use Rattle.run.proofs.caught_at.Tie as tie
+use Rattle.moves.proofs.caught_at.Statement.{statement}
+use Rattle.moves.proofs.caught_at.Tie as tie
 
 returns : tie.Need-returns
 returns c = let a = c .before .before .args in caught-bad (a .choices .now) (a .i) (c .before .before .pre .0) (c .if1 .taken) (c .before .before .pre .1)

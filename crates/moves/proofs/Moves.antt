@@ -25,12 +25,11 @@ use Rattle.opcode.specs.declared.OpRow.{OpRow}
 use Rattle.opcode.specs.declared.Role as insn-role
 use Rattle.opcode.specs.declared.Flow as insn-flow
 use Rattle.opcode.specs.Rows.{RowView, rowOf, opRow, roleOf, flowOf}
-use Rattle.exam.specs.View.{targetAt, targets}
-use Rattle.run.specs.declared.Choice as run
-use Rattle.run.specs.declared.Choice.the-variants.{GoOn, Jump, Enter, Caught, Leave}
-use Rattle.run.specs.Answers.{choiceOf}
-use Rattle.run.specs.Part.{part, partAt}
-use Rattle.run.proofs.View.{code-is}
+use Rattle.exam.specs.View.{codeAt, targetAt, targets}
+use Rattle.moves.specs.declared.Choice as moves
+use Rattle.moves.specs.declared.Choice.the-variants.{GoOn, Jump, Enter, Caught, Leave}
+use Rattle.moves.specs.Answers.{choiceOf}
+use Rattle.moves.specs.Part.{part, partAt}
 
 -- a move sees a record's instruction bytes and handlers alone
 pub move-part : (r : Record) (o : ℕ) (c : Choice) → move (part (r .code) (r .handlers)) o c ≡ move r o c
@@ -222,25 +221,29 @@ module _ (c hs : List ℕ) (o first number : ℕ) where
   caught-on h l g = g ∙ rw (le-ltb h (length (targets hs first number)) (omega (arith, count)))
 
 -- by the choice that the code was given
-module _ (c ts : List ℕ) (o : ℕ) {ch : run.Choice} {m : Move} where
+module _ (c ts : List ℕ) (o : ℕ) {ch : moves.Choice} {m : Move} where
   pub by-on : ch ≡ GoOn → m ≡ move (part c []) o go-on → m ≡ move (part c ts) o (choiceOf ch)
   unfolding move
-  by-on e g = g ∙ ap (λ (k : run.Choice). move (part c ts) o (choiceOf k)) (sym e)
+  by-on e g = g ∙ ap (λ (k : moves.Choice). move (part c ts) o (choiceOf k)) (sym e)
 
   pub by-jump : ch ≡ Jump → m ≡ move (part c []) o jump → m ≡ move (part c ts) o (choiceOf ch)
   unfolding move
-  by-jump e g = g ∙ ap (λ (k : run.Choice). move (part c ts) o (choiceOf k)) (sym e)
+  by-jump e g = g ∙ ap (λ (k : moves.Choice). move (part c ts) o (choiceOf k)) (sym e)
 
   pub by-enter : ch ≡ Enter → m ≡ move (part c []) o enter → m ≡ move (part c ts) o (choiceOf ch)
   unfolding move
-  by-enter e g = g ∙ ap (λ (k : run.Choice). move (part c ts) o (choiceOf k)) (sym e)
+  by-enter e g = g ∙ ap (λ (k : moves.Choice). move (part c ts) o (choiceOf k)) (sym e)
 
   pub by-caught : {h : ℕ} → ch ≡ Caught h → m ≡ move (part c ts) o (caught h) → m ≡ move (part c ts) o (choiceOf ch)
-  by-caught e g = g ∙ ap (λ (k : run.Choice). move (part c ts) o (choiceOf k)) (sym e)
+  by-caught e g = g ∙ ap (λ (k : moves.Choice). move (part c ts) o (choiceOf k)) (sym e)
 
-pub by-leave : (c ts : List ℕ) (o : ℕ) {ch : run.Choice} → ch ≡ Leave → gone ≡ move (part c ts) o (choiceOf ch)
+pub by-leave : (c ts : List ℕ) (o : ℕ) {ch : moves.Choice} → ch ≡ Leave → gone ≡ move (part c ts) o (choiceOf ch)
 unfolding move
-by-leave c ts o e = ap (λ (k : run.Choice). move (part c ts) o (choiceOf k)) (sym e)
+by-leave c ts o e = ap (λ (k : moves.Choice). move (part c ts) o (choiceOf k)) (sym e)
+
+-- the part of the file that is a record's instruction bytes
+pub code-is : (f recs : List ℕ) (r a n : ℕ) → a ≡ word 19 recs r 6 → n ≡ word 19 recs r 5 → take (a + n - a) (drop a f) ≡ codeAt f recs r
+code-is f recs r a n p q = let d : a + n - a ≡ n = omega arith in rw (d, p, q)
 
 -- the words that the code read of record row r
 pub moved-in : (f recs hs : List ℕ) (r o : ℕ) (ch : Choice) {a n h k : ℕ} {m : Move} → a ≡ word 19 recs r 6 → n ≡ word 19 recs r 5 → h ≡ word 19 recs r 7

@@ -10,9 +10,9 @@ use lib.ListN.{length, getD, drop}
 use Rattle.format.specs.Bytes.{Answer, refused}
 use Rattle.format.specs.Run as format
 use Rattle.runs.proofs.Choices.{read-kind, read-caught, read-cut, read-above}
-use Rattle.run.specs.declared.Choice.{Choice}
-use Rattle.run.specs.declared.Choice.the-variants.{Caught}
-use Rattle.run.specs.Answers.{choiceOf, NextIs}
+use Rattle.moves.specs.declared.Choice.{Choice}
+use Rattle.moves.specs.declared.Choice.the-variants.{Caught}
+use Rattle.moves.specs.Answers.{choiceOf, NextIs}
 
 up : {b : ℕ} (k : ℕ) → k ≤ b → (b ≡ k → ⊥) → k + 1 ≤ b
 up k h z = omega arith

@@ -1,10 +1,10 @@
--- `run::next_offset` meets its contract.
+-- `moves::next_offset` meets its contract.
 -- Assumes nothing.
 use native.Mathlib.Omega.{arith}
 use Rattle.format.specs.Insn.{rest}
 use borrow.Author.Needs.{needs}
-use Rattle.run.proofs.next_offset.Statement.{statement}
-use Rattle.run.proofs.next_offset.Tie as tie
+use Rattle.moves.proofs.next_offset.Statement.{statement}
+use Rattle.moves.proofs.next_offset.Tie as tie
 
 add-result : tie.Need-add-result
 unfolding rest
