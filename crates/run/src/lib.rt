@@ -9,9 +9,10 @@ use moves::Read;
 use moves::child_at;
 use moves::choice_at;
 use moves::move_in;
+use rows::clear;
 ghost use mathlib.Core.Path.{_≡_};
 ghost use Prim.Native.Nat.{_+_, _*_, _<_, _≤_};
-ghost use lib.ListN.{length, getD, set, replicate};
+ghost use lib.ListN.{length, set, replicate};
 ghost use Rattle.format.specs.Line.{lineAt};
 ghost use Rattle.format.specs.Lookup as table;
 ghost use Rattle.format.specs.Bytes.{ok};
@@ -39,17 +40,6 @@ pub enum Followed {
 enum Walked {
     Depth(usize),
     Bad,
-}
-
-// Every word of the table becomes 0.
-fn clear(t: &mut [u32])
-    ensures { λ _. ⌜ now (t .exit) ≡ replicate (length (now (t .entry))) 0 ⌝ }
-{
-    let mut i = 0;
-    while i < t.len() {
-        t[i] = 0;
-        i += 1;
-    }
 }
 
 // Row `i` of the frame table becomes the frame of record `r` at `o`.
