@@ -17,6 +17,7 @@ ghost use Rattle.insn.specs.Answers as insn;
 ghost use Rattle.line.specs.Answers as line;
 ghost use Rattle.rite.specs.Answers as rite;
 ghost use Rattle.constant.specs.Answers as constant;
+ghost use Rattle.ranges.specs.Answers as ranges;
 ghost use Rattle.lookup.specs.Answers as lookup;
 ghost use Rattle.run.specs.Answers as run;
 ghost use Rattle.boundary.specs.Structs.{given, instructionIs, fetchedIs, lineIs, rowsIs, loadedIs, textIs, handlerIs, valueIs, constantIs, nameIs, debugFileIs, lookedLineIs, followedIs};
@@ -215,7 +216,7 @@ pub fn loaded(l: Loaded) -> BlotheathLoaded
 }
 
 pub fn text(a: TextAnswer) -> BlotheathText
-    ensures { λ r. ⌜ r ≡ textIs (lookup.textOf a) ⌝ }
+    ensures { λ r. ⌜ r ≡ textIs (ranges.textOf a) ⌝ }
 {
     match a {
         TextAnswer::At { place, length } => BlotheathText {

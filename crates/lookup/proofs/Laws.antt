@@ -1,7 +1,7 @@
 -- Each lookup by the words of the record's row that it reads, a row that is found, and the part of the line table that is a record's map.
 -- Assumes nothing.
 use Prim.Native.Nat.{ℕ, _+_, _*_, _-_, _/_, _≤_, _<_}
-use native.Mathlib.Nat.{add-zero, add-assoc, div-one}
+use native.Mathlib.Nat.{div-one}
 use native.Mathlib.Omega.{arith}
 use mathlib.Core.Path.{_≡_, refl, sym, ap, _∙_}
 use mathlib.Core.Bool.{Bool, true, false, cond, _&&_}
@@ -10,27 +10,14 @@ use mathlib.Core.Option.{Option, none}
 use lib.Dec.{ltb}
 use lib.ListN.{length, getD, take, drop, length-drop}
 use lib.Seq.{length-take-le, getD-take, getD-drop, ext-getD}
-use borrow.Author.Tests.{ltb-true, lt-ltb, le-ltb, lt-leb, le-leb, ne-eqb}
+use borrow.Author.Tests.{ltb-true, lt-leb, le-leb, ne-eqb}
 use Rattle.format.specs.Bytes.{Answer, ok, refused, bind}
 use Rattle.format.specs.Rows.{Range, RecordRow, textRow, lineRow}
 use Rattle.format.specs.Line.{halve, lineAt, rowsFrom, lineRowAt, mapOf}
 use Rattle.format.specs.Lookup as format
 use Rattle.format.proofs.RowsFrom.{rowsFrom-length, rowsFrom-at, map-length, map-entry}
-use Rattle.lookup.specs.Leaves.{range, recordWords, rowAmong, recordRow, lineIn}
-
--- words k and k + 1 of a record's row: no row, a row of size 0, a row
-module _ (t : List ℕ) (r k : ℕ) where
-  pub record-none : length t / 19 ≤ r → refused 22 ≡ recordWords t r k
-  unfolding recordWords
-  record-none h = rw (le-ltb r (length t / 19) h)
-
-  pub record-empty : r < length t / 19 → getD t (r * 19) 0 ≡ 0 → refused 22 ≡ recordWords t r k
-  unfolding recordWords
-  record-empty h e = rw (lt-ltb r (length t / 19) h, add-zero, e)
-
-  pub record-there : r < length t / 19 → ¬ (getD t (r * 19) 0 ≡ 0) → ok (range (getD t (r * 19 + k) 0) (getD t (r * 19 + k + 1) 0)) ≡ recordWords t r k
-  unfolding recordWords
-  record-there h ne = rw (lt-ltb r (length t / 19) h, add-zero, lt-ltb 0 (getD t (r * 19) 0) (omega arith), add-assoc)
+use Rattle.ranges.specs.Leaves.{range, recordWords, rowAmong, recordRow}
+use Rattle.lookup.specs.Lines.{lineIn}
 
 -- words are missing where the record is
 pub record-missing : (t : List ℕ) (r k : ℕ) → refused 22 ≡ recordWords t r k → format.recordIn t r ≡ refused 22
@@ -61,15 +48,7 @@ module _ (t : List ℕ) (r k : ℕ) (g : RecordRow → Range) (same : g (format.
       assoc (ok x) = refl
       assoc (refused e) = refl
 
--- a row past its table's end, and a row that is found, which is in its table
-pub row-past : (rows : ℕ) (g : Range) (i : ℕ) → rows ≤ g .first + i → refused 22 ≡ rowAmong rows g i
-unfolding rowAmong
-row-past rows g i h = rw (le-ltb (g .first + i) rows h) (go (ltb i (g .number)))
-  where
-    go : (b : Bool) → refused 22 ≡ cond (b && false) (ok (g .first + i)) (refused 22)
-    go true = refl
-    go false = refl
-
+-- a row that is found is in its table
 row-among : (rows : ℕ) (a : Answer Range) (i j : ℕ) → ok j ≡ bind a (λ x. rowAmong rows x i) → j < rows
 unfolding rowAmong
 row-among rows (refused n) i j e = absurd (let z : _≡_ {A = ℕ} 0 1 = cc in omega arith)

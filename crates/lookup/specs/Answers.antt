@@ -5,8 +5,6 @@ use mathlib.Core.Option.{Option, none, some}
 use Rattle.format.specs.Bytes.{Answer, ok, refused}
 use Rattle.format.specs.Rows.{HandlerRow, TextRow, textRow}
 use Rattle.format.specs.Lookup as format
-use Rattle.lookup.specs.declared.TextAnswer.{TextAnswer}
-use Rattle.lookup.specs.declared.TextAnswer.the-variants as text
 use Rattle.lookup.specs.declared.HandlerAnswer.{HandlerAnswer}
 use Rattle.lookup.specs.declared.HandlerAnswer.the-variants as handler
 use Rattle.lookup.specs.declared.NameAnswer.{NameAnswer}
@@ -15,10 +13,6 @@ use Rattle.lookup.specs.declared.DebugFileAnswer.{DebugFileAnswer}
 use Rattle.lookup.specs.declared.DebugFileAnswer.the-variants as debug-file
 use Rattle.lookup.specs.declared.LineAnswer.{LineAnswer}
 use Rattle.lookup.specs.declared.LineAnswer.the-variants as line
-
-abbrev pub textOf : TextAnswer → Answer TextRow
-textOf (text.At place length) = ok (textRow place length)
-textOf (text.Refused e) = refused e
 
 abbrev pub handlerOf : HandlerAnswer → Answer HandlerRow
 handlerOf (handler.Row kind begin end target) = ok (record { kind = kind; begin = begin; end = end; target = target })

@@ -1,25 +1,26 @@
 // Lookups over a file and lent tables of any contents: instructions, handler, pool, symbol, name, debug file, line.
 ghost use mathlib.Core.Path.{_≡_};
-ghost use mathlib.Core.Bool.{_||_};
-ghost use Prim.Native.Nat.{_+_, _/_, _<_};
-ghost use lib.Dec.{leb, eqb};
+ghost use Prim.Native.Nat.{_/_, _<_};
 ghost use lib.ListN.{length};
 ghost use Rattle.format.specs.Bytes.{ok};
-ghost use Rattle.format.specs.Rows.{textRow};
 ghost use Rattle.format.specs.Lookup as format;
 ghost use Rattle.constant.specs.Answers.{poolOf};
-ghost use Rattle.lookup.specs.Answers.{textOf, handlerOf, nameOf, debugFileOf, lineOf};
-ghost use Rattle.lookup.specs.Leaves.{wordsOf, rowOf, recordWords, rowAmong, recordRow, range, lineIn};
+ghost use Rattle.ranges.specs.Answers.{textOf};
+ghost use Rattle.ranges.specs.Leaves.{range};
+ghost use Rattle.lookup.specs.Answers.{handlerOf, nameOf, debugFileOf, lineOf};
+ghost use Rattle.lookup.specs.Lines.{lineIn};
 use constant::PoolAnswer;
 use constant::constant_of;
 use line::LineAt;
 use line::Pos;
-
-// A text's place and length in the file, or the refusal's number.
-pub enum TextAnswer {
-    At { place: u32, length: u32 },
-    Refused(u8),
-}
+use ranges::Row;
+pub use ranges::TextAnswer;
+use ranges::Words;
+use ranges::bytes_in;
+use ranges::record_row;
+use ranges::record_words;
+use ranges::rows_in;
+use ranges::text_in;
 
 // A handler's fields, or the refusal's number.
 pub enum HandlerAnswer {
@@ -56,83 +57,6 @@ pub enum LineAnswer {
     At(line::Line),
     Nothing,
     Refused(u8),
-}
-
-// Two words of a record's row, if it has a row.
-enum Words {
-    At { first: u32, second: u32 },
-    Missing,
-}
-
-// A row of a table, if it is there.
-enum Row {
-    At(usize),
-    Missing,
-}
-
-// Words k and k + 1 of a record's row; a row of size 0 is none.
-fn record_words(records: &[u32], rec: u32, k: usize) -> Words
-    requires { ⌜ k < 18 ⌝ }
-    ensures { λ r. ⌜ wordsOf r ≡ recordWords (now (records .entry)) rec k ⌝ }
-{
-    let row = rec as usize;
-    if records.len() / 19 <= row {
-        return Words::Missing;
-    }
-    let start = row * 19;
-    if records[start] == 0 {
-        return Words::Missing;
-    }
-    Words::At {
-        first: records[start + k],
-        second: records[start + k + 1],
-    }
-}
-
-// Which row of a table of `rows` rows an index of a range is.
-fn row_among(rows: usize, first: u32, number: u32, index: u32) -> Row
-    ensures { λ r. ⌜ rowOf r ≡ rowAmong rows (range first number) index ⌝ }
-{
-    if number <= index {
-        return Row::Missing;
-    }
-    let row = (first as usize) + (index as usize);
-    if rows <= row {
-        return Row::Missing;
-    }
-    Row::At(row)
-}
-
-// Which row of a table of `rows` rows an index of a record's range is: words k and k + 1 of the record's row are the range.
-fn record_row(records: &[u32], rec: u32, k: usize, rows: usize, index: u32) -> Row
-    requires { ⌜ k < 18 ⌝ }
-    ensures { λ r. ⌜ rowOf r ≡ recordRow (now (records .entry)) rec k rows index ⌝ }
-{
-    match record_words(records, rec, k) {
-        Words::Missing => Row::Missing,
-        Words::At { first, second } => row_among(rows, first, second, index),
-    }
-}
-
-// Bytes of the file.
-fn bytes_in(f: &[u8], place: u32, length: u32) -> TextAnswer
-    ensures { λ r. ⌜ textOf r ≡ format.bytesIn (now (f .entry)) (textRow place length) ⌝ }
-{
-    if f.len() < (place as usize) + (length as usize) {
-        return TextAnswer::Refused(22);
-    }
-    TextAnswer::At { place, length }
-}
-
-// Row i of a table of texts.
-fn text_in(f: &[u8], texts: &[u32], i: usize) -> TextAnswer
-    ensures { λ r. ⌜ textOf r ≡ format.textIn (now (f .entry)) (now (texts .entry)) i ⌝ }
-{
-    if texts.len() / 2 <= i {
-        return TextAnswer::Refused(22);
-    }
-    let start = i * 2;
-    bytes_in(f, texts[start], texts[start + 1])
 }
 
 // A record's instructions.
@@ -229,16 +153,6 @@ pub fn name(
         Row::Missing => NameAnswer::Refused(22),
         Row::At(i) => name_of(f, strings, names[i]),
     }
-}
-
-// Whether rows lie in a table of `rows` rows: none points nowhere.
-fn rows_in(rows: usize, first: u32, number: u32) -> bool
-    ensures { λ r. ⌜ r ≡ (eqb number 0 || leb (first + number) rows) ⌝ }
-{
-    if number == 0 {
-        return true;
-    }
-    (first as usize) + (number as usize) <= rows
 }
 
 // The debug file that row i of the debug file table says.

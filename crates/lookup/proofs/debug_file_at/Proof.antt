@@ -7,8 +7,8 @@ use native.Mathlib.Nat.{add-zero}
 use native.Mathlib.Omega.{arith}
 use lib.ListN.{getD}
 use Rattle.format.specs.Lookup.{textIn, rowsIn, debugFileOf}
-use Rattle.lookup.specs.declared.TextAnswer.the-variants.{At, Refused}
-use Rattle.lookup.specs.Answers.{textOf}
+use Rattle.ranges.specs.declared.TextAnswer.the-variants.{At, Refused}
+use Rattle.ranges.specs.Answers.{textOf}
 use borrow.Author.Needs.{needs}
 use Rattle.lookup.proofs.debug_file_at.Statement.{statement}
 use Rattle.lookup.proofs.debug_file_at.Tie as tie

@@ -2,7 +2,7 @@
 -- Assumes nothing.
 use mathlib.Core.Path.{sym, ap, _∙_}
 use Rattle.format.specs.Lookup.{instructions}
-use Rattle.lookup.specs.Leaves.{wordsOf}
+use Rattle.ranges.specs.Leaves.{wordsOf}
 use Rattle.lookup.proofs.Laws.{record-missing, instructions-is}
 use borrow.Author.Needs.{needs}
 use Rattle.lookup.proofs.instructions.Statement.{statement}

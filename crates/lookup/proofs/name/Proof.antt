@@ -2,7 +2,7 @@
 -- Assumes nothing.
 use mathlib.Core.Path.{sym, ap, _∙_}
 use lib.ListN.{length}
-use Rattle.lookup.specs.Leaves.{rowOf}
+use Rattle.ranges.specs.Leaves.{rowOf}
 use Rattle.lookup.proofs.Laws.{row-there, name-is, name-found}
 use borrow.Author.Needs.{needs}
 use Rattle.lookup.proofs.name.Statement.{statement}

@@ -3,8 +3,8 @@
 use borrow.Author.Tests.{eq-eqb, ne-eqb}
 use mathlib.Core.Path.{_≡_, sym, ap, _∙_}
 use Rattle.format.specs.Lookup.{textIn, nameOf}
-use Rattle.lookup.specs.declared.TextAnswer.the-variants.{At, Refused}
-use Rattle.lookup.specs.Answers.{textOf}
+use Rattle.ranges.specs.declared.TextAnswer.the-variants.{At, Refused}
+use Rattle.ranges.specs.Answers.{textOf}
 use borrow.Author.Needs.{needs}
 use Rattle.lookup.proofs.name_of.Statement.{statement}
 use Rattle.lookup.proofs.name_of.Tie as tie

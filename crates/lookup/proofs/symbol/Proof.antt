@@ -1,7 +1,7 @@
 -- `lookup::symbol` meets its contract.
 -- Assumes nothing.
 use mathlib.Core.Path.{sym, ap, _∙_}
-use Rattle.lookup.specs.Leaves.{rowOf}
+use Rattle.ranges.specs.Leaves.{rowOf}
 use Rattle.lookup.proofs.Laws.{symbol-is}
 use borrow.Author.Needs.{needs}
 use Rattle.lookup.proofs.symbol.Statement.{statement}

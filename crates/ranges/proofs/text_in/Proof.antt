@@ -1,4 +1,4 @@
--- `lookup::text_in` meets its contract.
+-- `ranges::text_in` meets its contract.
 -- Assumes nothing.
 use native.Mathlib.Nat.{add-zero}
 use Prim.Native.Nat.{_/_}
@@ -7,8 +7,8 @@ use lib.ListN.{length}
 use Rattle.format.specs.Lookup.{textIn}
 use native.Mathlib.Omega.{arith}
 use borrow.Author.Needs.{needs}
-use Rattle.lookup.proofs.text_in.Statement.{statement}
-use Rattle.lookup.proofs.text_in.Tie as tie
+use Rattle.ranges.proofs.text_in.Statement.{statement}
+use Rattle.ranges.proofs.text_in.Tie as tie
 
 returns : tie.Need-returns
 unfolding textIn

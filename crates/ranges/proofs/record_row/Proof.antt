@@ -1,11 +1,11 @@
--- `lookup::record_row` meets its contract.
+-- `ranges::record_row` meets its contract.
 -- Assumes nothing.
 use mathlib.Core.Path.{_≡_, sym, ap, _∙_}
-use Rattle.lookup.specs.declared.Words.the-variants.{At, Missing}
-use Rattle.lookup.specs.Leaves.{wordsOf, recordWords, recordRow}
+use Rattle.ranges.specs.declared.Words.the-variants.{At, Missing}
+use Rattle.ranges.specs.Leaves.{wordsOf, recordWords, recordRow}
 use borrow.Author.Needs.{needs}
-use Rattle.lookup.proofs.record_row.Statement.{statement}
-use Rattle.lookup.proofs.record_row.Tie as tie
+use Rattle.ranges.proofs.record_row.Statement.{statement}
+use Rattle.ranges.proofs.record_row.Tie as tie
 
 returns : tie.Need-returns
 unfolding recordRow

@@ -1,9 +1,9 @@
--- `lookup::rows_in` meets its contract.
+-- `ranges::rows_in` meets its contract.
 -- Assumes nothing.
 use borrow.Author.Tests.{eq-eqb, ne-eqb}
 use borrow.Author.Needs.{needs}
-use Rattle.lookup.proofs.rows_in.Statement.{statement}
-use Rattle.lookup.proofs.rows_in.Tie as tie
+use Rattle.ranges.proofs.rows_in.Statement.{statement}
+use Rattle.ranges.proofs.rows_in.Tie as tie
 
 returns : tie.Need-returns
 returns c = rw (eq-eqb (c .before .args .number) 0 (c .if1 .taken))

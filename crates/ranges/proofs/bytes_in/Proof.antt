@@ -1,4 +1,4 @@
--- `lookup::bytes_in` meets its contract.
+-- `ranges::bytes_in` meets its contract.
 -- Assumes nothing.
 use borrow.Author.Tests.{lt-leb, le-leb}
 use Prim.Native.Nat.{_+_}
@@ -6,8 +6,8 @@ use lib.ListN.{length}
 use Rattle.format.specs.Lookup.{bytesIn}
 use native.Mathlib.Omega.{arith}
 use borrow.Author.Needs.{needs}
-use Rattle.lookup.proofs.bytes_in.Statement.{statement}
-use Rattle.lookup.proofs.bytes_in.Tie as tie
+use Rattle.ranges.proofs.bytes_in.Statement.{statement}
+use Rattle.ranges.proofs.bytes_in.Tie as tie
 
 returns : tie.Need-returns
 unfolding bytesIn

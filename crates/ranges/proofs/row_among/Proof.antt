@@ -1,13 +1,13 @@
--- `lookup::row_among` meets its contract.
+-- `ranges::row_among` meets its contract.
 -- Assumes nothing.
 use borrow.Author.Tests.{lt-ltb, le-ltb}
 use Prim.Native.Nat.{_+_}
-use Rattle.lookup.specs.Leaves.{range, rowAmong}
-use Rattle.lookup.proofs.Laws.{row-past}
+use Rattle.ranges.specs.Leaves.{range, rowAmong}
+use Rattle.ranges.proofs.Laws.{row-past}
 use native.Mathlib.Omega.{arith}
 use borrow.Author.Needs.{needs}
-use Rattle.lookup.proofs.row_among.Statement.{statement}
-use Rattle.lookup.proofs.row_among.Tie as tie
+use Rattle.ranges.proofs.row_among.Statement.{statement}
+use Rattle.ranges.proofs.row_among.Tie as tie
 
 returns : tie.Need-returns
 unfolding rowAmong

@@ -3,15 +3,14 @@
 use Prim.Native.Nat.{ℕ, _+_}
 use mathlib.Core.Bool.{cond, _&&_}
 use mathlib.Core.List.{List}
-use mathlib.Core.Option.{Option}
 use lib.Dec.{ltb}
 use Rattle.format.specs.Bytes.{Answer, ok, refused, bind}
 use Rattle.format.specs.Rows.{Range}
-use Rattle.format.specs.Lookup.{word, rangeAt, hasRow, rowsIn, mapIn}
-use Rattle.lookup.specs.declared.Words.{Words}
-use Rattle.lookup.specs.declared.Words.the-variants as words
-use Rattle.lookup.specs.declared.Row.{Row}
-use Rattle.lookup.specs.declared.Row.the-variants as row
+use Rattle.format.specs.Lookup.{word, rangeAt, hasRow}
+use Rattle.ranges.specs.declared.Words.{Words}
+use Rattle.ranges.specs.declared.Words.the-variants as words
+use Rattle.ranges.specs.declared.Row.{Row}
+use Rattle.ranges.specs.declared.Row.the-variants as row
 
 abbrev pub range : ℕ → ℕ → Range
 range first number = record { first = first; number = number }
@@ -35,7 +34,3 @@ rowAmong rows g i = cond (ltb i (g .number) && ltb (g .first + i) rows) (ok (g .
 
 unfoldable pub recordRow : List ℕ → ℕ → ℕ → ℕ → ℕ → Answer ℕ
 recordRow t r k rows i = bind (recordWords t r k) (λ g. rowAmong rows g i)
-
--- the line of an offset in the map that rows of the line table are
-unfoldable pub lineIn : List ℕ → Range → ℕ → Answer (Option ℕ)
-lineIn lines g p = bind (rowsIn 2 lines g) (λ g. mapIn lines g p)

@@ -1,10 +1,10 @@
--- `lookup::record_words` meets its contract.
+-- `ranges::record_words` meets its contract.
 -- Assumes nothing.
-use Rattle.lookup.proofs.Laws.{record-none, record-empty, record-there}
+use Rattle.ranges.proofs.Laws.{record-none, record-empty, record-there}
 use native.Mathlib.Omega.{arith}
 use borrow.Author.Needs.{needs}
-use Rattle.lookup.proofs.record_words.Statement.{statement}
-use Rattle.lookup.proofs.record_words.Tie as tie
+use Rattle.ranges.proofs.record_words.Statement.{statement}
+use Rattle.ranges.proofs.record_words.Tie as tie
 
 returns : tie.Need-returns
 returns c = record-none (c .before .args .records .now) (c .before .args .rec) (c .before .args .k) (omega (arith, c .if1 .taken))
