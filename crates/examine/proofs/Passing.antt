@@ -1,14 +1,14 @@
 -- The examination of a loaded file's tables is that of the file; after a refusal the tables are zeros alone.
 -- Assumes nothing.
-use Prim.Native.Nat.{ℕ, zero, suc, _≤_}
+use Prim.Native.Nat.{ℕ, _≤_}
 use native.Mathlib.Omega.{arith}
-use mathlib.Core.Path.{_≡_, refl, sym, ap, subst, _∙_}
+use mathlib.Core.Path.{_≡_, refl, sym, ap, _∙_}
 use mathlib.Core.Bool.{Bool, true, false, cond}
 use mathlib.Core.List.{List}
 use lib.Dec.{leb, eqb, leb→le}
 use lib.ListN.{length}
 use borrow.Author.Tests.{le-leb, ne-eqb}
-use Rattle.format.specs.Bytes.{Answer, ok, refused, bind, onAnswer}
+use Rattle.format.specs.Bytes.{Answer, ok, refused, bind}
 use Rattle.format.specs.File.{Content, nothing}
 use Rattle.format.specs.Load.{Nine, recordsOf, namesOf, filesOf, start, tablesOf, used, fits, Words, wordsOf, loading, laid, load}
 use Rattle.format.specs.Pattern.{patternOf}
@@ -21,7 +21,7 @@ use Rattle.exam.specs.View.{patternAt, Fits}
 use Rattle.sections.specs.declared.Used.{Used}
 use Rattle.file.specs.declared.Loaded.{Loaded}
 use Rattle.file.specs.declared.Loaded.the-variants as loaded
-use Rattle.rite.specs.Answers.{nineOf, answerOf, loadedOf}
+use Rattle.rite.specs.Answers.{nineOf, loadedOf}
 use Rattle.examine.specs.Passing.{passingIn, refusalOf}
 use Rattle.examine.proofs.Loaded.{pattern-is, tables-fit}
 

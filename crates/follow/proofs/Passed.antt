@@ -5,7 +5,7 @@ use native.Mathlib.Omega.{arith}
 use mathlib.Core.Path.{_≡_, refl, sym, ap, _∙_}
 use mathlib.Core.Bool.{Bool, true, false, cond}
 use mathlib.Core.List.{List, []}
-use lib.Dec.{leb, eqb, eqb→eq}
+use lib.Dec.{leb, eqb}
 use lib.ListN.{length, replicate}
 use borrow.Author.Tests.{leb-true, eqb-true}
 use Rattle.format.specs.Bytes.{Answer, ok, refused, bind, onAnswer}
@@ -16,7 +16,7 @@ use Rattle.format.specs.Exam.{examinePattern, passing}
 use Rattle.format.specs.Run as format
 use Rattle.format.specs.Run.{Choice, Standing, standing, run, choices, following, follow}
 use Rattle.layout.proofs.Ends.{ok-refused}
-use Rattle.exam.specs.View.{patternAt, Fits, Ready}
+use Rattle.exam.specs.View.{patternAt, Ready}
 use Rattle.sections.specs.declared.Used.{Used}
 use Rattle.file.specs.declared.Loaded.{Loaded}
 use Rattle.file.specs.declared.Loaded.the-variants as loaded
