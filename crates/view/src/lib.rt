@@ -13,7 +13,7 @@ pub struct RecordView<'a> {
 }
 
 // The size bytes at a place of the file; none where they pass its end.
-pub fn part(file: &[u8], place: usize, size: usize) -> &[u8]
+fn part(file: &[u8], place: usize, size: usize) -> &[u8]
     ensures { λ r. ⌜ now r ≡ partOf (now (file .entry)) place size ⌝ }
 {
     if file.len() < place {
@@ -26,7 +26,7 @@ pub fn part(file: &[u8], place: usize, size: usize) -> &[u8]
 }
 
 // The instruction at an offset of those bytes.
-pub fn fetch_in(file: &[u8], place: usize, size: usize, at: usize) -> FetchAnswer
+fn fetch_in(file: &[u8], place: usize, size: usize, at: usize) -> FetchAnswer
     ensures { λ r. ⌜ answerOf r ≡ fetchIn (partOf (now (file .entry)) place size) at ⌝ }
 {
     let code = part(file, place, size);
