@@ -1,0 +1,80 @@
+-- The flag of an instruction, and what flags say of a record: a record of which only the bytes and the counts matter.
+-- Assumes nothing.
+use Prim.Native.Nat.{ℕ, zero, suc, _+_, _-_, _≤_, _<_}
+use mathlib.Core.Path.{_≡_}
+use mathlib.Core.Bool.{Bool, true, cond, _&&_}
+use mathlib.Core.List.{List, []}
+use lib.Dec.{leb, ltb}
+use lib.ListN.{length, getD}
+use Rattle.format.specs.Bytes.{byte, u16At}
+use Rattle.format.specs.Insn.{Role, reg, pool, sym, child, plain, flow, rowAt, next, signed16}
+use Rattle.format.specs.Pattern.{Record, begins}
+use Rattle.format.specs.Exam.{below, operandsBelow, refuse}
+use Rattle.flags.specs.Digits.{instruction, digitsOf, flagInside, flagLast}
+
+-- what operands have to stay below, by the number of their role: 256 where it is plain
+pub record Limits (l : List ℕ) : Type 0 where
+  pub five : length l ≡ 5
+  pub plain-limit : getD l 4 0 ≡ 256
+
+abbrev pub bare : List ℕ → List ℕ → Record
+bare l c =
+    record { nregs = getD l 0 0; rlen = getD l 3 0; npool = getD l 1 0; nsyms = getD l 2 0; code = c; handlers = []; lines = [] }
+
+abbrev pub roleAt : ℕ → Role
+roleAt zero = reg
+roleAt (suc zero) = pool
+roleAt (suc (suc zero)) = sym
+roleAt (suc (suc (suc zero))) = child
+roleAt (suc (suc (suc (suc x)))) = plain
+
+-- 17 at one operand, the byte at i, whose role has the number x
+abbrev pub operandBelow : List ℕ → List ℕ → ℕ → ℕ → Bool
+operandBelow l c i x = below (bare l []) (roleAt x) (byte c i)
+
+-- it is there unless it is plain
+pub record Operand (c : List ℕ) (i x : ℕ) : Type 0 where
+  pub role : x < 5
+  pub there : x < 4 → i < length c
+
+-- d: the digits of the instruction at o, which is known and whole
+pub record Looked (c : List ℕ) (o d : ℕ) : Type 0 where
+  pub digits : d ≡ digitsOf (byte c o)
+  pub read : instruction (byte c o) ≡ true
+  pub whole : next c o ≤ length c
+
+-- the flag of the instruction at o: 2 where it meets 17
+unfoldable pub flagAt : Record → ℕ → ℕ
+flagAt r o =
+    cond
+    (operandsBelow r o)
+    (cond (ltb (next (r .code) o) (length (r .code))) (flagInside (flow (rowAt (r .code) o))) (flagLast (flow (rowAt (r .code) o))))
+    2
+
+-- what 17 and 18 answer at an instruction by its flag; t: an instruction begins at its target
+unfoldable pub judged : ℕ → Bool → ℕ
+judged zero t = 0
+judged (suc zero) t = 0
+judged (suc (suc zero)) t = 17
+judged (suc (suc (suc zero))) t = refuse 18 t
+judged (suc (suc (suc (suc v)))) t = 18
+
+-- a byte's flag is 0 exactly where no instruction begins
+pub record Marked (c flags : List ℕ) : Type 0 where
+  pub room : length c ≤ length flags
+  pub starts : (o : ℕ) → o < length c → ltb 0 (getD flags o 0) ≡ begins c o
+
+-- and that of the instruction otherwise
+abbrev pub toldAt : List ℕ → List ℕ → ℕ → ℕ
+toldAt l c o = cond (begins c o) (flagAt (bare l c) o) 0
+
+pub record Flagged (l c flags : List ℕ) : Type 0 where
+  pub room : length c ≤ length flags
+  pub told : (o : ℕ) → o < length c → getD flags o 0 ≡ toldAt l c o
+
+-- 18 by the next offset n: a jump's operand is the two bytes before n
+abbrev pub jumpFrom : List ℕ → ℕ → ℕ
+jumpFrom c n = n + signed16 (u16At c (n - 2))
+
+unfoldable pub landsFrom : List ℕ → ℕ → Bool
+landsFrom c n = leb 65536 (jumpFrom c n) && begins c (jumpFrom c n - 65536)
