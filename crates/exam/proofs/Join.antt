@@ -6,7 +6,7 @@ use mathlib.Core.Path.{_≡_, refl, sym, ap, _∙_}
 use mathlib.Core.Bool.{Bool, true, false}
 use mathlib.Core.List.{List, [], _∷_}
 use lib.Dec.{eqb}
-use lib.ListN.{take, drop}
+use lib.ListN.{getD, take, drop}
 use borrow.Author.Tests.{ne-eqb}
 use Rattle.format.specs.Insn.{Role, reg, pool, sym as symbol, child, plain, roles, rest, rowAt, operandsAt}
 use Rattle.format.specs.Line.{rowsFrom}
@@ -14,18 +14,11 @@ use Rattle.format.specs.Lookup.{word}
 use Rattle.format.specs.Tree.{layout, whole}
 use Rattle.format.specs.Pattern.{Record, rlens}
 use Rattle.format.specs.Exam.{below, allBelow, operandsBelow, follows, refuse, first, firstAt, at1718, exam1718, exam19, exam20, examineRecord, examineAll, examinePattern}
-use Rattle.exam.specs.declared.Counts.{Counts}
+use Rattle.flags.specs.Flags.{bare}
 use Rattle.exam.specs.View.{recordAt, patternAt, rlensAt}
-use Rattle.exam.specs.Part.{bare, examinePart}
+use Rattle.exam.specs.Part.{examinePart}
+use Rattle.exam.proofs.First.{first-none, first-some, first-assoc}
 use Rattle.exam.proofs.Rows.{rows-map, rows-start, rows-turn, rows-end}
-
-pub first-none : (a b : ℕ) → a ≡ 0 → first a b ≡ b
-first-none zero b e = refl
-first-none (suc a) b e = absurd (omega arith)
-
-pub first-some : (a b : ℕ) → (a ≡ 0 → ⊥) → a ≡ first a b
-first-some zero b z = absurd (z refl)
-first-some (suc a) b z = refl
 
 -- of a record only the bytes and the counts matter to 17 and 18
 firstAt-same : (f g : ℕ → ℕ) → ((o : ℕ) → f o ≡ g o) → (bs : List ℕ) (left o : ℕ) → firstAt f bs left o ≡ firstAt g bs left o
@@ -34,14 +27,14 @@ firstAt-same f g e [] left o = refl
 firstAt-same f g e (b ∷ bs) zero o = rw (e o, firstAt-same f g e bs (rest b bs) (suc o))
 firstAt-same f g e (b ∷ bs) (suc left) o = firstAt-same f g e bs left (suc o)
 
-pub record Same (k : Counts) (R : Record) : Type 0 where
-  pub regs : k .nregs ≡ R .nregs
-  pub children : k .rlen ≡ R .rlen
-  pub constants : k .pool ≡ R .npool
-  pub symbols : k .syms ≡ R .nsyms
+record Same (l : List ℕ) (R : Record) : Type 0 where
+  pub regs : getD l 0 0 ≡ R .nregs
+  pub constants : getD l 1 0 ≡ R .npool
+  pub symbols : getD l 2 0 ≡ R .nsyms
+  pub children : getD l 3 0 ≡ R .rlen
 
-module _ (k : Counts) (R : Record) (s : Same k R) where
-  below-same : (x : Role) (v : ℕ) → below (bare k (R .code)) x v ≡ below R x v
+module _ (l : List ℕ) (R : Record) (s : Same l R) where
+  below-same : (x : Role) (v : ℕ) → below (bare l (R .code)) x v ≡ below R x v
   unfolding below
   below-same reg v = rw (s .regs)
   below-same pool v = rw (s .constants)
@@ -49,30 +42,34 @@ module _ (k : Counts) (R : Record) (s : Same k R) where
   below-same child v = rw (s .children)
   below-same plain v = refl
 
-  all-same : (xs : List Role) (vs : List ℕ) → allBelow (bare k (R .code)) xs vs ≡ allBelow R xs vs
+  all-same : (xs : List Role) (vs : List ℕ) → allBelow (bare l (R .code)) xs vs ≡ allBelow R xs vs
   unfolding allBelow
   all-same [] vs = refl
   all-same (x ∷ xs) [] = refl
   all-same (x ∷ xs) (v ∷ vs) = rw (below-same x v, all-same xs vs)
 
-  operands-same : (o : ℕ) → operandsBelow (bare k (R .code)) o ≡ operandsBelow R o
+  operands-same : (o : ℕ) → operandsBelow (bare l (R .code)) o ≡ operandsBelow R o
   unfolding operandsBelow
   operands-same o = all-same (roles (rowAt (R .code) o)) (operandsAt (R .code) o)
 
-  bare-same : exam1718 (bare k (R .code)) ≡ exam1718 R
+  bare-same : exam1718 (bare l (R .code)) ≡ exam1718 R
   unfolding exam1718
   bare-same =
-      firstAt-same (at1718 (bare k (R .code))) (at1718 R) (λ o. ap (λ (b : Bool). first (refuse 17 b) (refuse 18 (follows (R .code) o))) (operands-same o)) (R .code) 0 0
+      firstAt-same (at1718 (bare l (R .code))) (at1718 R) (λ o. ap (λ (b : Bool). first (refuse 17 b) (refuse 18 (follows (R .code) o))) (operands-same o)) (R .code) 0 0
 
--- the words that the code read
+-- the words that the code reads
+abbrev pub limitsAt : List ℕ → ℕ → List ℕ
+limitsAt recs r = word 19 recs r 2 ∷ word 19 recs r 10 ∷ word 19 recs r 12 ∷ word 19 recs r 3 ∷ 256 ∷ []
+
 module _ (f recs hs ls : List ℕ) (r : ℕ) where
-  pub record-is : (k : Counts) (a e h hn l ln n : ℕ) → Same k (recordAt f recs hs ls r) → a ≡ word 19 recs r 6 → n ≡ word 19 recs r 5 → e ≡ a + n
+  pub record-is : (a e h hn l ln n : ℕ) → a ≡ word 19 recs r 6 → n ≡ word 19 recs r 5 → e ≡ a + n
       → h ≡ word 19 recs r 7 → hn ≡ word 19 recs r 8 → l ≡ word 19 recs r 17 → ln ≡ word 19 recs r 18
-      → examinePart k (take (e - a) (drop a f)) hs h hn ls l ln ≡ examineRecord (recordAt f recs hs ls r)
+      → examinePart (limitsAt recs r) (take (e - a) (drop a f)) hs h hn ls l ln ≡ examineRecord (recordAt f recs hs ls r)
   unfolding examineRecord exam19 exam20
-  record-is k a e h hn l ln n s ea en ee eh ehn el eln =
+  record-is a e h hn l ln n ea en ee eh ehn el eln =
       let d : e - a ≡ word 19 recs r 5 = omega arith in
-      rw (d, ea, eh, ehn, el, eln, bare-same k (recordAt f recs hs ls r) s)
+      let s : Same (limitsAt recs r) (recordAt f recs hs ls r) = record { regs = refl; constants = refl; symbols = refl; children = refl } in
+      rw (first-assoc, d, ea, eh, ehn, el, eln, bare-same (limitsAt recs r) (recordAt f recs hs ls r) s)
 
 -- 15, at the record i with p trees to go
 abbrev rlenAt : List ℕ → ℕ → ℕ
@@ -118,23 +115,14 @@ module _ {recs : List ℕ} {n : ℕ} where
 
 -- the records in turn, at the record r
 pub record Passed (f recs hs ls : List ℕ) (n r : ℕ) : Type 0 where
-  pub so : examinePattern (patternAt f recs hs ls n) ≡ examineAll (rowsFrom (recordAt f recs hs ls) r (n - r))
-
-module _ (f recs hs ls : List ℕ) (n : ℕ) where
-  rlens-are : rlens (patternAt f recs hs ls n) ≡ rlensAt recs n
-  rlens-are = rows-map (recordAt f recs hs ls) (λ (R : Record). R .rlen) 0 n
-
-  pub passed-bad : whole (rlensAt recs n) ≡ false → 15 ≡ examinePattern (patternAt f recs hs ls n)
-  unfolding examinePattern
-  passed-bad e = rw (rlens-are, e)
+  pub so : examineAll (patternAt f recs hs ls n) ≡ examineAll (rowsFrom (recordAt f recs hs ls) r (n - r))
 
 module _ {f recs hs ls : List ℕ} {n : ℕ} where
-  pub passed-start : whole (rlensAt recs n) ≡ true → Passed f recs hs ls n 0
-  unfolding examinePattern
-  passed-start e = record { so = rw (rlens-are f recs hs ls n, e) (ap examineAll (rows-start (recordAt f recs hs ls) 0 n n (omega arith))) }
+  pub passed-start : Passed f recs hs ls n 0
+  passed-start = record { so = ap examineAll (rows-start (recordAt f recs hs ls) 0 n n (omega arith)) }
 
   module _ {r : ℕ} (h : r < n) (g : Passed f recs hs ls n r) where
-    turned : examinePattern (patternAt f recs hs ls n)
+    turned : examineAll (patternAt f recs hs ls n)
         ≡ first (examineRecord (recordAt f recs hs ls r)) (examineAll (rowsFrom (recordAt f recs hs ls) (r + 1) (n - (r + 1))))
     unfolding examineAll
     turned = g .so ∙ rw (rows-turn (recordAt f recs hs ls) r n h)
@@ -142,9 +130,22 @@ module _ {f recs hs ls : List ℕ} {n : ℕ} where
     pub passed-turn : {x : ℕ} → x ≡ examineRecord (recordAt f recs hs ls r) → x ≡ 0 → Passed f recs hs ls n (r + 1)
     passed-turn e z = record { so = turned ∙ first-none (examineRecord (recordAt f recs hs ls r)) _ (sym e ∙ z) }
 
-    pub passed-stop : {x : ℕ} → x ≡ examineRecord (recordAt f recs hs ls r) → (x ≡ 0 → ⊥) → x ≡ examinePattern (patternAt f recs hs ls n)
+    pub passed-stop : {x : ℕ} → x ≡ examineRecord (recordAt f recs hs ls r) → (x ≡ 0 → ⊥) → x ≡ examineAll (patternAt f recs hs ls n)
     passed-stop {x} e z = rw (turned, ← e) (first-some x _ z)
 
-  pub passed-end : {r : ℕ} → n ≤ r → Passed f recs hs ls n r → 0 ≡ examinePattern (patternAt f recs hs ls n)
+  pub passed-end : {r : ℕ} → n ≤ r → Passed f recs hs ls n r → 0 ≡ examineAll (patternAt f recs hs ls n)
   unfolding examineAll
   passed-end {r} h g = sym (g .so ∙ rw (rows-end (recordAt f recs hs ls) r n h))
+
+-- 15 before the records
+module _ (f recs hs ls : List ℕ) (n : ℕ) where
+  rlens-are : rlens (patternAt f recs hs ls n) ≡ rlensAt recs n
+  rlens-are = rows-map (recordAt f recs hs ls) (λ (R : Record). R .rlen) 0 n
+
+  pub tree-bad : whole (rlensAt recs n) ≡ false → 15 ≡ examinePattern (patternAt f recs hs ls n)
+  unfolding examinePattern
+  tree-bad e = rw (rlens-are, e)
+
+  pub tree-good : whole (rlensAt recs n) ≡ true → examineAll (patternAt f recs hs ls n) ≡ examinePattern (patternAt f recs hs ls n)
+  unfolding examinePattern
+  tree-good e = rw (rlens-are, e)

@@ -1,120 +1,130 @@
--- The loop that tests 16 and marks where instructions begin: it goes byte by byte, as `reach` does.
+-- The loop that tests 16 and sets the flags: it goes from instruction to instruction over flags that are 0.
 -- Assumes nothing.
-use Prim.Native.Nat.{ℕ, suc, _+_, _-_, _≤_, _<_}
-use native.Mathlib.Nat.{eq-or-lt-of-le}
+use Prim.Native.Nat.{ℕ, suc, _+_, _-_, _%_, _≤_, _<_}
+use native.Mathlib.Nat.{sub-zero, eq-or-lt-of-le}
 use native.Mathlib.Omega.{arith}
-use mathlib.Core.Path.{_≡_, refl, sym, _∙_, subst}
+use mathlib.Core.Path.{_≡_, refl, sym, ap, _∙_}
 use mathlib.Core.Logic.{_⊎_, inl, inr}
-use mathlib.Core.Bool.{Bool, true, false, _&&_, not}
-use mathlib.Core.List.{List, _∷_}
-use lib.Dec.{ltb, leb, eqb}
+use mathlib.Core.Bool.{Bool, true, false, cond, _&&_, not}
+use mathlib.Core.List.{List}
+use lib.Dec.{ltb, leb}
 use lib.ListN.{length, getD, set, drop, length-set}
 use lib.Seq.{drop-cons, getD-set-same, getD-set-other}
-use borrow.Author.Tests.{ltb-true, ltb-false, eqb-true, eqb-false, lt-ltb, le-ltb, le-leb, lt-leb}
+use borrow.Author.Tests.{ltb-true, ltb-false, lt-ltb, le-leb, lt-leb}
 use Rattle.format.specs.Bytes.{byte}
 use Rattle.format.specs.Insn.{known, prefix, size, opcode, rest, next}
 use Rattle.format.specs.Pattern.{reach, begins}
 use Rattle.format.specs.Exam.{readable, refuse, first, firstAt, at16, exam16}
-use Rattle.exam.specs.Part.{Told, Marked, Marks}
-use Rattle.exam.proofs.Places.{Place, place-start, place-here, place-begins, place-first, place-next, firstAt-first, firstAt-next, firstAt-past}
+use Rattle.runs.proofs.Loops.{firstAt-turn, firstAt-end, reach-turn, reach-over}
+use Rattle.flags.specs.Digits.{instruction, digitsOf}
+use Rattle.flags.specs.Flags.{bare, Looked, flagAt, toldAt, Flagged}
+use Rattle.flags.proofs.Numbers.{size-digit, no-digit, some-digit}
+use Rattle.exam.specs.Part.{Cleared, Marks}
 
--- the opcode byte
-pub instruction-low : (b : ℕ) → b < 115 → true ≡ (known b && not (prefix b))
-instruction-low b h = rw (lt-ltb b 119 (omega arith), lt-leb 115 b h)
+-- the loop that clears, at the flag i
+module _ {before : List ℕ} where
+  pub cleared-start : Cleared before 0 before
+  cleared-start = record { long = refl; none = λ o h. absurd (omega arith) }
 
-pub instruction-high : (b : ℕ) → 115 ≤ b → eqb b 118 ≡ (known b && not (prefix b))
-instruction-high b h = go (eqb b 118) refl (ltb b 118) refl
-  where
-    go : (x : Bool) → eqb b 118 ≡ x → (y : Bool) → ltb b 118 ≡ y → x ≡ (known b && not (prefix b))
-    go true e y l = rw (eqb-true b 118 e)
-    go false e true l = let k = ltb-true b 118 l in rw (lt-ltb b 119 (omega arith), le-leb 115 b h, le-leb b 117 (omega arith))
-    go false e false l = let k = ltb-false b 118 l in rw (le-ltb b 119 (omega (arith, eqb-false b 118 e)))
+  pub cleared-turn : {flags : List ℕ} {i : ℕ} → i < length before → Cleared before i flags → Cleared before (i + 1) (set flags i 0)
+  cleared-turn {flags} {i} h g = record { long = simp length-set (g .long); none = λ o l. go o (eq-or-lt-of-le {n = o} {m = i} (omega arith)) }
+    where
+      go : (o : ℕ) → (o ≡ i) ⊎ (o < i) → getD (set flags i 0) o 0 ≡ 0
+      go o (inl q) = rw (q, getD-set-same flags i 0 0 (omega (arith, g .long)))
+      go o (inr q) = rw (getD-set-other flags i o 0 0 (λ z. omega arith)) (g .none o q)
 
-and-false : (a b d : Bool) → d ≡ false → (a && b && d) ≡ false
-and-false true true d e = e
-and-false true false d e = refl
-and-false false b d e = refl
+  pub cleared-end : {flags : List ℕ} {n i : ℕ} → n ≤ i → Cleared before i flags → Cleared before n flags
+  cleared-end h g = record { long = g .long; none = λ o l. g .none o (omega arith) }
 
-and-cut : (a b d : Bool) → (a && b) ≡ false → (a && b && d) ≡ false
-and-cut true true d e = cc
-and-cut true false d e = refl
-and-cut false b d e = refl
+and-false : (a d : Bool) → d ≡ false → (a && d) ≡ false
+and-false true d e = e
+and-false false d e = refl
 
-and-true : (a b d : Bool) → (a && b) ≡ true → d ≡ true → (a && b && d) ≡ true
-and-true true true d k e = e
-and-true true false d k e = k
-and-true false b d k e = k
+and-assoc : (a b d : Bool) → (a && b && d) ≡ ((a && b) && d)
+and-assoc true b d = refl
+and-assoc false b d = refl
 
-pub record Marking (c flags : List ℕ) (i left : ℕ) : Type 0 where
+-- 16 at an instruction
+readable-is : (c : List ℕ) (o : ℕ) → readable c o ≡ (instruction (byte c o) && leb (next c o) (length c))
+unfolding readable opcode
+readable-is c o = and-assoc (known (byte c o)) (not (prefix (byte c o))) (leb (next c o) (length c))
+
+pub record Marking (l c flags : List ℕ) (i : ℕ) : Type 0 where
   pub room : length c ≤ length flags
-  pub place : Place c i left
-  pub upto : (o : ℕ) → o < i → Told c o (getD flags o 0)
-  pub so : exam16 c ≡ firstAt (at16 c) (drop i c) left i
+  pub ahead : (o : ℕ) → i ≤ o → begins c o ≡ reach (drop i c) 0 (o - i)
+  pub upto : (o : ℕ) → o < i → getD flags o 0 ≡ toldAt l c o
+  pub clear : (o : ℕ) → i ≤ o → o < length c → getD flags o 0 ≡ 0
+  pub so : exam16 c ≡ firstAt (at16 c) (drop i c) 0 i
 
 -- a record with no byte
-pub marks-empty : (c flags : List ℕ) → length c ≡ 0 → Marks c flags 16
+pub marks-empty : (l c flags : List ℕ) → length c ≡ 0 → Marks l c flags 16
 unfolding exam16
-marks-empty c flags e = record { answers = rw e; marked = λ z. absurd (omega arith) }
+marks-empty l c flags e = record { answers = rw e; flagged = λ z. absurd (omega arith) }
 
-module _ {c : List ℕ} where
-  pub marking-start : (flags : List ℕ) → (length c ≡ 0 → ⊥) → length c ≤ length flags → Marking c flags 0 0
+module _ {l c : List ℕ} where
+  pub marking-start : {before flags : List ℕ} → (length c ≡ 0 → ⊥) → length c ≤ length before → Cleared before (length c) flags → Marking l c flags 0
   unfolding exam16
-  marking-start flags z h = record {
-    room = h;
-    place = place-start;
-    upto = λ o g. absurd (omega arith);
+  marking-start z h g = record {
+    room = omega (arith, g .long);
+    ahead = λ o k. rw sub-zero;
+    upto = λ o k. absurd (omega arith);
+    clear = λ o k q. g .none o q;
     so = rw (lt-ltb 0 (length c) (omega arith));
   }
 
-  module _ {flags : List ℕ} {i left : ℕ} (h : i < length c) (m : Marking c flags i left) where
-    stored : (v : ℕ) → Told c i v → (o : ℕ) → o < i + 1 → Told c o (getD (set flags i v) o 0)
-    stored v e o g = go (eq-or-lt-of-le {n = o} {m = i} (omega arith))
-      where
-        go : (o ≡ i) ⊎ (o < i) → Told c o (getD (set flags i v) o 0)
-        go (inl q) = rw (q, getD-set-same flags i v 0 (omega (arith, m .room))) e
-        go (inr q) = rw (getD-set-other flags i o v 0 (λ z. omega arith)) (m .upto o q)
+  module _ {flags : List ℕ} {i : ℕ} (h : i < length c) (m : Marking l c flags i) where
+    turned : exam16 c ≡ first (refuse 16 (readable c i)) (firstAt (at16 c) (drop (next c i) c) 0 (next c i))
+    turned = m .so ∙ firstAt-turn (at16 c) c i h
 
-    -- an instruction begins at i, n is its size: the two refusals, and the next turn
-    refused : (n : ℕ) → left ≡ 0 → n ≡ size (byte c i) → readable c i ≡ false → Marks c flags 16
-    refused n e q z = record {
-      answers = sym (m .so ∙ firstAt-first (at16 c) c i left n h e q ∙ rw z);
-      marked = λ z. absurd (omega arith);
-    }
+    refused : readable c i ≡ false → Marks l c flags 16
+    refused z = record { answers = sym (turned ∙ rw z); flagged = λ y. absurd (omega arith) }
 
-    pub marks-unknown : left ≡ 0 → false ≡ (known (byte c i) && not (prefix (byte c i))) → Marks c flags 16
-    unfolding readable opcode
-    marks-unknown e q = refused (size (byte c i)) e refl (and-cut (known (byte c i)) (not (prefix (byte c i))) (leb (next c i) (length c)) (sym q))
+    module _ (d : ℕ) (e : d ≡ digitsOf (byte c i)) where
+      pub marks-unknown : d % 8 ≡ 0 → Marks l c flags 16
+      marks-unknown z = refused (readable-is c i ∙ rw (← no-digit (byte c i) e z))
 
-    pub marks-cut : (n : ℕ) → left ≡ 0 → n ≡ size (byte c i) → length c - i < n → Marks c flags 16
-    unfolding readable opcode rest
-    marks-cut n e q l = refused n e q (and-false (known (byte c i)) (not (prefix (byte c i))) (leb (next c i) (length c)) (lt-leb (next c i) (length c) (omega arith)))
+      module _ (s : d % 8 ≡ 0 → ⊥) where
+        next-is : i + d % 8 ≡ next c i
+        unfolding rest
+        next-is = ap (λ (n : ℕ). i + n) (size-digit (byte c i) (some-digit (byte c i) e s) e)
 
-    pub marking-first : (n v : ℕ) → left ≡ 0 → true ≡ (known (byte c i) && not (prefix (byte c i))) → n ≡ size (byte c i) → n ≤ length c - i
-        → 0 < v → (v ≡ 1 → (n ≡ 1) × (1 < length c - i)) → Marking c (set flags i v) (i + 1) (n - 1)
-    unfolding readable opcode rest
-    marking-first n v e k q l some easy = record {
-      room = simp length-set (m .room);
-      place = place-first h (m .place) n e q;
-      upto = stored v (record {
-        starts = lt-ltb 0 v some ∙ sym (place-begins h (m .place) e);
-        easy = λ z. record { alone = sym q ∙ easy z .0; inside = omega (arith, easy z .1) };
-      });
-      so = m .so ∙ firstAt-first (at16 c) c i left n h e q ∙ rw (and-true (known (byte c i)) (not (prefix (byte c i))) (leb (next c i) (length c)) (sym k) (le-leb (next c i) (length c) (omega arith)));
-    }
+        pub marks-cut : length c - i < d % 8 → Marks l c flags 16
+        marks-cut k = refused (readable-is c i ∙ and-false (instruction (byte c i)) (leb (next c i) (length c)) (lt-leb (next c i) (length c) (omega (arith, next-is))))
 
-    pub marking-next : (left ≡ 0 → ⊥) → Marking c (set flags i 0) (i + 1) (left - 1)
-    unfolding reach
-    marking-next z =
-        let e : left ≡ suc (left - 1) = omega arith in
-        record {
-          room = simp length-set (m .room);
-          place = place-next h (m .place) z;
-          upto = stored 0 (record { starts = rw (place-here h (m .place), drop-cons c i 0 h, e); easy = λ y. absurd (omega arith) });
-          so = m .so ∙ firstAt-next (at16 c) c i left h z;
-        }
+        module _ (k : d % 8 ≤ length c - i) where
+          pub marking-looked : Looked c i d
+          marking-looked = record { digits = e; read = some-digit (byte c i) e s; whole = omega (arith, next-is) }
 
-  pub marking-end : {flags : List ℕ} {i left : ℕ} → length c ≤ i → Marking c flags i left → Marks c flags 0
-  marking-end {flags} {i} {left} h m = record {
-    answers = sym (m .so ∙ firstAt-past (at16 c) c i left h);
-    marked = λ z. record { room = m .room; told = λ o g. m .upto o (omega arith) };
+          here : begins c i ≡ true
+          unfolding reach
+          here = let z : i - i ≡ 0 = omega arith in m .ahead i (omega arith) ∙ rw (z, drop-cons c i 0 h)
+
+          module _ (v : ℕ) (q : v ≡ flagAt (bare l c) i) where
+            -- the flags below the next offset
+            stored : (o : ℕ) → o < next c i → getD (set flags i v) o 0 ≡ toldAt l c o
+            stored o g = go (ltb o i) refl
+              where
+                at : (i ≡ o) ⊎ (i < o) → getD (set flags i v) o 0 ≡ toldAt l c o
+                at (inl z) = rw (← z, getD-set-same flags i v 0 (omega (arith, m .room)), here) q
+                at (inr z) =
+                    rw (getD-set-other flags i o v 0 (λ y. omega arith), m .ahead o (omega arith), reach-over c i o h z g)
+                    (m .clear o (omega arith) (omega (arith, next-is)))
+
+                go : (x : Bool) → ltb o i ≡ x → getD (set flags i v) o 0 ≡ toldAt l c o
+                go true z = let y = ltb-true o i z in rw (getD-set-other flags i o v 0 (λ x. omega arith)) (m .upto o y)
+                go false z = at (eq-or-lt-of-le {n = i} {m = o} (ltb-false o i z))
+
+            pub marking-turn : Marking l c (set flags i v) (i + d % 8)
+            marking-turn = rw next-is record {
+              room = simp length-set (m .room);
+              ahead = λ o g. m .ahead o (omega (arith, next-is)) ∙ reach-turn c i o h (omega (arith, next-is)) g;
+              upto = stored;
+              clear = λ o g z. rw (getD-set-other flags i o v 0 (λ y. omega (arith, next-is))) (m .clear o (omega (arith, next-is)) z);
+              so = turned ∙ rw (readable-is c i, some-digit (byte c i) e s, le-leb (next c i) (length c) (omega (arith, next-is)));
+            }
+
+  pub marking-end : {flags : List ℕ} {i : ℕ} → length c ≤ i → Marking l c flags i → Marks l c flags 0
+  marking-end {flags} {i} h m = record {
+    answers = sym (m .so ∙ firstAt-end (at16 c) c i h);
+    flagged = λ z. record { room = m .room; told = λ o g. m .upto o (omega arith) };
   }

@@ -13,7 +13,7 @@ use Rattle.format.specs.Insn.{Flow, on, ends, jumps, may, flow, rowAt, next, si
 use Rattle.format.specs.Pattern.{Record, begins, lands}
 use Rattle.format.specs.Exam.{leads, hasTarget, operandsBelow, follows, refuse, first, at1718}
 use Rattle.runs.proofs.Begins.{reach-inside, begins-next}
-use Rattle.runs.proofs.Jumps.{operand}
+use Rattle.runs.proofs.Jumps.{jump-wide, operand}
 use Rattle.flags.specs.Digits.{flagInside, flagLast}
 use Rattle.flags.specs.Flags.{bare, flagAt, judged, Marked, Flagged, jumpFrom, landsFrom}
 
@@ -90,6 +90,27 @@ leads-judged jumps true t u e = ap (refuse 18) (e tt)
 leads-judged jumps false t u e = ap (refuse 18) (e tt)
 leads-judged may true t u e = ap (refuse 18) (e tt)
 leads-judged may false t u e = refl
+
+-- a flag of 3 is that of a jump
+flow-jumps : (n : Bool) (w : Flow) → cond n (flagInside w) (flagLast w) ≡ 3 → T (hasTarget w)
+flow-jumps true on e = absurd (omega arith)
+flow-jumps true ends e = absurd (omega arith)
+flow-jumps true jumps e = tt
+flow-jumps true may e = tt
+flow-jumps false on e = absurd (omega arith)
+flow-jumps false ends e = absurd (omega arith)
+flow-jumps false jumps e = tt
+flow-jumps false may e = absurd (omega arith)
+
+pub flag-wide : (R : Record) (o : ℕ) → flagAt R o ≡ 3 → o + 3 ≤ next (R .code) o
+unfolding flagAt
+flag-wide R o e = jump-wide (R .code) o (go (operandsBelow R o) e)
+  where
+    go : (p : Bool)
+        → cond p (cond (ltb (next (R .code) o) (length (R .code))) (flagInside (flow (rowAt (R .code) o))) (flagLast (flow (rowAt (R .code) o)))) 2 ≡ 3
+        → T (hasTarget (flow (rowAt (R .code) o)))
+    go true q = flow-jumps (ltb (next (R .code) o) (length (R .code))) (flow (rowAt (R .code) o)) q
+    go false q = absurd (omega arith)
 
 pub judged-is : (R : Record) (o : ℕ) → begins (R .code) o ≡ true → at1718 R o ≡ judged (flagAt R o) (landsFrom (R .code) (next (R .code) o))
 unfolding flagAt judged follows

@@ -3,61 +3,53 @@
 use borrow.Author.Needs.{needs}
 use native.Mathlib.Omega.{arith}
 use Prim.Native.Nat.{_-_}
-use mathlib.Core.Path.{_≡_, refl, sym, _∙_}
+use mathlib.Core.Path.{_≡_, refl}
 use lib.ListN.{length, length-set}
-use borrow.Author.Tests.{not-true, not-false}
-use Rattle.format.specs.Insn.{size}
-use Rattle.exam.proofs.Marks.{Marking, marks-empty, marking-start, marks-unknown, marks-cut, marking-first, marking-next, marking-end}
+use Rattle.exam.proofs.Marks.{Marking, marks-empty, marking-start, marks-unknown, marks-cut, marking-looked, marking-turn, marking-end}
 use Rattle.exam.proofs.exam_16.Statement.{statement}
 use Rattle.exam.proofs.exam_16.Tie as tie
 
 abbrev Inv-loop : tie.InvT-loop
-Inv-loop code flags₀ left₀ i₀ flags left i = (length flags ≡ length flags₀) × Marking code flags i left
+Inv-loop code flags₀ limits i₀ flags i = (length flags ≡ length flags₀) × Marking limits code flags i
 
 abbrev μ-loop : tie.MeasureT-loop
-μ-loop code flags₀ left₀ i₀ flags left i = length code - i
+μ-loop code flags₀ limits i₀ flags i = length code - i
 
 returns : tie.Need-returns Inv-loop μ-loop
-returns c = marks-empty (c .before .before .before .args .code .now) (c .before .before .before .args .flags .now) (c .if1 .taken)
+returns c = marks-empty (c .before .before .before .before .args .limits .now) (c .before .before .before .before .args .code .now) (c .before .before .before .before .args .flags .now) (c .if1 .taken)
+
+clear-requires : tie.Need-clear-requires Inv-loop μ-loop
+clear-requires c κs = search needs
 
 loop-holds : tie.Need-loop-holds Inv-loop μ-loop
-loop-holds c = (refl, marking-start (c .before .before .before .args .flags .now) (c .if1 .left) (c .before .before .before .pre))
+loop-holds c = (refl, marking-start (c .before .before .before .before .if1 .left) (c .before .before .before .before .before .before .before .before .pre .0) (c .before .before .clear .ensures))
 
-shared-slice-read-b : tie.Need-shared-slice-read-b Inv-loop μ-loop
-shared-slice-read-b c = search needs
+shared-slice-read-digits : tie.Need-shared-slice-read-digits Inv-loop μ-loop
+shared-slice-read-digits c = search needs
 
-is-instruction-requires : tie.Need-is-instruction-requires Inv-loop μ-loop
-is-instruction-requires c κs = search needs
+digits-requires : tie.Need-digits-requires Inv-loop μ-loop
+digits-requires c κs = search needs
 
 same-length : tie.Need-same-length Inv-loop μ-loop
-same-length c = search needs
+same-length c = omega (arith, c .before .before .before .before .loop .inv .0, c .before .before .before .before .before .before .before .clear .ensures .long)
 
 returns-2 : tie.Need-returns-2 Inv-loop μ-loop
-returns-2 c = marks-unknown (c .before .before .before .before .loop-test .taken) (c .before .before .before .before .before .loop .inv .1) (c .before .before .before .if2 .taken) (sym (not-true _ (c .if3 .taken)) ∙ c .before .is-instruction .ensures)
+returns-2 c = marks-unknown (c .before .before .before .loop-test .taken) (c .before .before .before .before .loop .inv .1) _ (c .before .digits .ensures) (c .if2 .taken)
 
-size-requires : tie.Need-size-requires Inv-loop μ-loop
-size-requires c κs = search needs
-
-sub-if4 : tie.Need-sub-if4 Inv-loop μ-loop
-sub-if4 c = search needs
+sub-if3 : tie.Need-sub-if3 Inv-loop μ-loop
+sub-if3 c = search needs
 
 same-length-2 : tie.Need-same-length-2 Inv-loop μ-loop
-same-length-2 c = search needs
+same-length-2 c = omega (arith, c .before .before .before .before .before .loop .inv .0, c .before .before .before .before .before .before .before .before .clear .ensures .long)
 
 returns-3 : tie.Need-returns-3 Inv-loop μ-loop
-returns-3 c = marks-cut (c .before .before .before .before .before .before .loop-test .taken) (c .before .before .before .before .before .before .before .loop .inv .1) _ (c .before .before .before .before .before .if2 .taken) (c .before .size .ensures) (c .if4 .taken)
+returns-3 c = marks-cut (c .before .before .before .before .loop-test .taken) (c .before .before .before .before .before .loop .inv .1) _ (c .before .before .digits .ensures) (c .before .if2 .left) (c .if3 .taken)
 
-sub-flag-of : tie.Need-sub-flag-of Inv-loop μ-loop
-sub-flag-of c = search needs
-
-flag-of-requires : tie.Need-flag-of-requires Inv-loop μ-loop
-flag-of-requires c κs = search needs
+flag-at-requires : tie.Need-flag-at-requires Inv-loop μ-loop
+flag-at-requires c κs = (c .before .before .before .before .before .before .before .before .before .before .before .before .before .before .pre .1, marking-looked (c .before .before .before .before .loop-test .taken) (c .before .before .before .before .before .loop .inv .1) _ (c .before .before .digits .ensures) (c .before .if2 .left) (c .if3 .left))
 
 slice-write-flags : tie.Need-slice-write-flags Inv-loop μ-loop
-slice-write-flags c = omega (arith, c .before .before .before .before .before .before .before .before .loop .inv .1 .room)
-
-sub-left : tie.Need-sub-left Inv-loop μ-loop
-sub-left c = omega (arith, c .before .before .size .ensures)
+slice-write-flags c = omega (arith, c .before .before .before .before .before .before .loop .inv .1 .room)
 
 add-i : tie.Need-add-i Inv-loop μ-loop
 add-i c = search needs
@@ -66,25 +58,10 @@ loop-less : tie.Need-loop-less Inv-loop μ-loop
 loop-less c = search needs
 
 loop-again : tie.Need-loop-again Inv-loop μ-loop
-loop-again c = (simp length-set (c .before .before .before .before .before .before .before .before .loop .inv .0), marking-first (c .before .before .before .before .before .before .before .loop-test .taken) (c .before .before .before .before .before .before .before .before .loop .inv .1) _ _ (c .before .before .before .before .before .before .if2 .taken) (sym (not-false _ (c .before .before .before .if3 .left)) ∙ c .before .before .before .before .is-instruction .ensures) (c .before .before .size .ensures) (c .before .if4 .left) (c .flag-of .ensures .0) (c .flag-of .ensures .1))
-
-slice-write-flags-2 : tie.Need-slice-write-flags-2 Inv-loop μ-loop
-slice-write-flags-2 c = omega (arith, c .before .before .loop .inv .1 .room)
-
-sub-left-2 : tie.Need-sub-left-2 Inv-loop μ-loop
-sub-left-2 c = search needs
-
-add-i-2 : tie.Need-add-i-2 Inv-loop μ-loop
-add-i-2 c = search needs
-
-loop-less-2 : tie.Need-loop-less-2 Inv-loop μ-loop
-loop-less-2 c = search needs
-
-loop-again-2 : tie.Need-loop-again-2 Inv-loop μ-loop
-loop-again-2 c = (simp length-set (c .before .before .loop .inv .0), marking-next (c .before .loop-test .taken) (c .before .before .loop .inv .1) (c .if2 .left))
+loop-again c = (simp length-set (c .before .before .before .before .before .before .loop .inv .0), marking-turn (c .before .before .before .before .before .loop-test .taken) (c .before .before .before .before .before .before .loop .inv .1) _ (c .before .before .before .digits .ensures) (c .before .before .if2 .left) (c .before .if3 .left) _ (c .flag-at .ensures))
 
 same-length-3 : tie.Need-same-length-3 Inv-loop μ-loop
-same-length-3 c = search needs
+same-length-3 c = omega (arith, c .before .loop .inv .0, c .before .before .before .before .clear .ensures .long)
 
 returns-4 : tie.Need-returns-4 Inv-loop μ-loop
 returns-4 c = marking-end (c .loop-test .left) (c .before .loop .inv .1)
@@ -96,26 +73,19 @@ exam-16-spec =
     Inv-loop
     μ-loop
     returns
+    clear-requires
     loop-holds
-    shared-slice-read-b
-    is-instruction-requires
+    shared-slice-read-digits
+    digits-requires
     same-length
     returns-2
-    size-requires
-    sub-if4
+    sub-if3
     same-length-2
     returns-3
-    sub-flag-of
-    flag-of-requires
+    flag-at-requires
     slice-write-flags
-    sub-left
     add-i
     loop-less
     loop-again
-    slice-write-flags-2
-    sub-left-2
-    add-i-2
-    loop-less-2
-    loop-again-2
     same-length-3
     returns-4)

@@ -69,6 +69,9 @@ part-examine-part-start c = search needs
 part-examine-part-end : tie.Need-part-examine-part-end
 part-examine-part-end c = search needs
 
+slice-aggregate-examine-part : tie.Need-slice-aggregate-examine-part
+slice-aggregate-examine-part c = search needs
+
 add-word-3 : tie.Need-add-word-3
 add-word-3 c = search needs
 
@@ -94,13 +97,13 @@ word-requires-6 : tie.Need-word-requires-6
 word-requires-6 c κs = search needs
 
 examine-part-requires : tie.Need-examine-part-requires
-examine-part-requires c κs = search needs
+examine-part-requires c κs = (search needs, (record { five = refl; plain-limit = refl }, (search needs, search needs)))
 
 same-length : tie.Need-same-length
 same-length c = search needs
 
 returns : tie.Need-returns
-returns c = c .before .before .examine-part .ensures ∙ record-is (c .before .before .before .before .before .before .before .before .before .before .before .before .before .before .before .before .before .before .before .before .args .file .now) (c .before .before .before .before .before .before .before .before .before .before .before .before .before .before .before .before .before .before .before .before .args .records .now) (c .before .before .before .before .before .before .before .before .before .before .before .before .before .before .before .before .before .before .before .before .args .handlers .now) (c .before .before .before .before .before .before .before .before .before .before .before .before .before .before .before .before .before .before .before .before .args .lines .now) (c .before .before .before .before .before .before .before .before .before .before .before .before .before .before .before .before .before .before .before .before .args .r) _ _ _ _ _ _ _ (c .before .before .before .before .before .before .before .before .before .before .before .before .before .word2 .result) (record { regs = refl; children = refl; constants = refl; symbols = refl }) (c .before .before .before .before .before .before .before .before .before .before .before .before .before .before .word .ensures .0) (c .before .before .before .before .before .before .before .before .before .before .before .before .before .word2 .ensures .0) refl (c .before .before .before .before .before .before .word3 .ensures .0) (c .before .before .before .before .before .word4 .ensures .0) (c .before .before .before .before .word5 .ensures .0) (c .before .before .before .word6 .ensures .0)
+returns c = c .before .before .examine-part .ensures ∙ record-is (c .before .before .before .before .before .before .before .before .before .before .before .before .before .before .before .before .before .before .before .before .before .args .file .now) (c .before .before .before .before .before .before .before .before .before .before .before .before .before .before .before .before .before .before .before .before .before .args .records .now) (c .before .before .before .before .before .before .before .before .before .before .before .before .before .before .before .before .before .before .before .before .before .args .handlers .now) (c .before .before .before .before .before .before .before .before .before .before .before .before .before .before .before .before .before .before .before .before .before .args .lines .now) (c .before .before .before .before .before .before .before .before .before .before .before .before .before .before .before .before .before .before .before .before .before .args .r) _ _ _ _ _ _ (c .before .before .before .before .before .before .before .before .before .before .before .before .before .before .word2 .result) (c .before .before .before .before .before .before .before .before .before .before .before .before .before .before .before .word .ensures .0) (c .before .before .before .before .before .before .before .before .before .before .before .before .before .before .word2 .ensures .0) refl (c .before .before .before .before .before .before .word3 .ensures .0) (c .before .before .before .before .before .word4 .ensures .0) (c .before .before .before .before .word5 .ensures .0) (c .before .before .before .word6 .ensures .0)
 
 pub examine-record-spec : {M : Type 1} → statement M
 examine-record-spec =
@@ -127,6 +130,7 @@ examine-record-spec =
     sub-examine-part
     part-examine-part-start
     part-examine-part-end
+    slice-aggregate-examine-part
     add-word-3
     word-requires-3
     add-word-4

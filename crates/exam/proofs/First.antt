@@ -1,0 +1,18 @@
+-- The first refusal of two.
+-- Assumes nothing.
+use Prim.Native.Nat.{ℕ, zero, suc}
+use native.Mathlib.Omega.{arith}
+use mathlib.Core.Path.{_≡_, refl}
+use Rattle.format.specs.Exam.{first}
+
+pub first-none : (a b : ℕ) → a ≡ 0 → first a b ≡ b
+first-none zero b e = refl
+first-none (suc a) b e = absurd (omega arith)
+
+pub first-some : (a b : ℕ) → (a ≡ 0 → ⊥) → a ≡ first a b
+first-some zero b z = absurd (z refl)
+first-some (suc a) b z = refl
+
+pub first-assoc : (a b d : ℕ) → first (first a b) d ≡ first a (first b d)
+first-assoc zero b d = refl
+first-assoc (suc a) b d = refl
