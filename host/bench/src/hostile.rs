@@ -8,9 +8,25 @@ const LAST_SIZE: u32 = 0x1100_0000;
 /// The files with their names.
 pub fn files() -> Vec<(&'static str, Vec<u8>)> {
     vec![
+        ("code of NOP", shared_code(&[NOP])),
+        ("code of sizes 2", shared_code(&[LOADNIL])),
+        ("code of sizes 3", shared_code(&[MOVE])),
         (
-            "1,024 records that share 28,672 bytes of code",
-            shared_code(),
+            "code of sizes 1 and 2 in random order",
+            shared_code(&[KEYEND, LOADNIL]),
+        ),
+        (
+            "code of sizes 1 to 4 in random order",
+            shared_code(&[NOP, KEYEND, LOADNIL, ADD, MOVE, ADDI, GETUPVAR, AREF]),
+        ),
+        ("code of jumps", shared_code(&[JMP])),
+        (
+            "code of NOP and jumps in random order",
+            shared_code(&[NOP, JMP]),
+        ),
+        (
+            "code of two kinds of jumps in random order",
+            shared_code(&[JMP, JMPNOT]),
         ),
         (
             "1,024 records that share a text",
@@ -44,32 +60,116 @@ fn irep(content: &[u8]) -> Vec<u8> {
     section(b"IREP", &[&[0; 4], content].concat())
 }
 
-fn head(size: u32, nlocals: u16, nregs: u16, rlen: u16, ilen: usize) -> Vec<u8> {
+fn head(size: u32, nlocals: u16, nregs: u16, rlen: u16, clen: u16, ilen: usize) -> Vec<u8> {
     let mut head = size.to_be_bytes().to_vec();
-    for field in [nlocals, nregs, rlen, 0] {
+    for field in [nlocals, nregs, rlen, clen] {
         head.extend(field.to_be_bytes());
     }
     head.extend((ilen as u32).to_be_bytes());
     head
 }
 
-/// A chain of records that passes; the code of each begins with the headers of those behind it, read as instructions.
-fn shared_code() -> Vec<u8> {
+/// An instruction: its opcode, how many bytes it has, and whether it jumps.
+struct Kind {
+    opcode: u8,
+    size: usize,
+    jumps: bool,
+}
+
+const fn kind(opcode: u8, size: usize) -> Kind {
+    Kind {
+        opcode,
+        size,
+        jumps: false,
+    }
+}
+
+const fn jump(opcode: u8, size: usize) -> Kind {
+    Kind {
+        opcode,
+        size,
+        jumps: true,
+    }
+}
+
+const NOP: Kind = kind(0, 1);
+const KEYEND: Kind = kind(59, 1);
+const LOADNIL: Kind = kind(17, 2);
+const ADD: Kind = kind(69, 2);
+const MOVE: Kind = kind(1, 3);
+const ADDI: Kind = kind(70, 3);
+const GETUPVAR: Kind = kind(33, 4);
+const AREF: Kind = kind(87, 4);
+const JMP: Kind = jump(38, 3);
+const JMPNOT: Kind = jump(40, 4);
+
+/// Numbers in an order that no predictor learns, the same in every run.
+struct Random(u64);
+
+impl Random {
+    fn below(&mut self, limit: usize) -> usize {
+        self.0 ^= self.0 << 13;
+        self.0 ^= self.0 >> 7;
+        self.0 ^= self.0 << 17;
+        (self.0 >> 16) as usize % limit
+    }
+}
+
+/// At most so many bytes of code: the kinds in random order, operands 0, jumps to any instruction, and STOP at the end.
+fn code(kinds: &[Kind], most: usize) -> Vec<u8> {
+    let mut random = Random(88_172_645_463_325_252);
+    let mut code = Vec::new();
+    let mut starts = Vec::new();
+    let mut ends = Vec::new();
+    loop {
+        let kind = &kinds[random.below(kinds.len())];
+        if code.len() + kind.size >= most {
+            break;
+        }
+        starts.push(code.len());
+        code.push(kind.opcode);
+        code.resize(code.len() + kind.size - 1, 0);
+        if kind.jumps {
+            ends.push(code.len());
+        }
+    }
+    for end in ends {
+        let operand = loop {
+            let target = starts[random.below(starts.len())];
+            if let Ok(operand) = i16::try_from(target as i64 - end as i64) {
+                break operand;
+            }
+        };
+        code[end - 2..end].copy_from_slice(&operand.to_be_bytes());
+    }
+    code.push(118);
+    code
+}
+
+/// A chain of records that passes. All have their code's end in common, and the code of each begins with the headers of those behind it, read
+/// as instructions: NOP, LOADNIL, LOADI with the number of children, and LOADI32 with the length.
+fn shared_code(kinds: &[Kind]) -> Vec<u8> {
     let stride = 17;
+    // 15 handlers whose targets are 0, no constants, no symbols.
+    let behind = vec![0; 15 * 13 + 4];
+    let code = code(kinds, 65_536 - 32 - RECORDS * stride - behind.len());
+    let end = RECORDS * stride + code.len();
     let mut content = Vec::new();
     for number in 0..RECORDS {
-        let start = number * stride + 16;
-        // The code ends behind a STOP of the tail, where four zeros are no constants and no symbols.
-        let mut end = start + 0x7000;
-        while (end - RECORDS * stride) % 5 != 1 {
-            end += 1;
-        }
         let is_last = number + 1 == RECORDS;
         let size = if is_last { LAST_SIZE } else { stride as u32 };
-        content.extend(head(size, 0, 17, u16::from(!is_last), end - start));
+        content.extend(head(
+            size,
+            0,
+            3,
+            u16::from(!is_last),
+            15,
+            end - content.len() - 16,
+        ));
         content.push(0);
     }
-    content.extend([118, 0, 0, 0, 0].repeat(0x7000 / 5 + 4));
+    content.extend(code);
+    content.extend(behind);
     file(&[irep(&content)])
 }
 
@@ -94,7 +194,7 @@ fn shared_constants(pool: &[u8]) -> Vec<u8> {
     let mut content = Vec::new();
     for number in 1..=RECORDS {
         let size = if number == RECORDS { LAST_SIZE } else { 16 };
-        content.extend(head(size, 1, 1, 0, (RECORDS - number) * 16));
+        content.extend(head(size, 1, 1, 0, 0, (RECORDS - number) * 16));
     }
     content.extend(pool);
     file(&[irep(&content)])
@@ -104,7 +204,7 @@ fn shared_constants(pool: &[u8]) -> Vec<u8> {
 fn children() -> Vec<u8> {
     let mut content = Vec::new();
     for _ in 0..RECORDS {
-        content.extend(head(21, 1, 1, 65_535, 1));
+        content.extend(head(21, 1, 1, 65_535, 0, 1));
         content.extend([118, 0, 0, 0, 0]);
     }
     let names = section(b"LVAR", &[0, 0, 0, 0]);
