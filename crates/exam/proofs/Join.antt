@@ -17,7 +17,7 @@ use Rattle.format.specs.Exam.{below, allBelow, operandsBelow, follows, refuse, 
 use Rattle.flags.specs.Flags.{bare}
 use Rattle.exam.specs.View.{recordAt, patternAt, rlensAt}
 use Rattle.exam.specs.Part.{examinePart}
-use Rattle.exam.proofs.First.{first-none, first-some, first-assoc}
+use Rattle.scan.proofs.First.{first-none, first-some, first-assoc}
 use Rattle.exam.proofs.Rows.{rows-map, rows-start, rows-turn, rows-end}
 
 -- of a record only the bytes and the counts matter to 17 and 18

@@ -1,8 +1,6 @@
 // Examination of a loaded pattern: conditions 15 to 20 over the file's bytes and the lent tables.
 use flags::begins_at;
-use flags::digits;
-use flags::flag_at;
-use flags::lands_at;
+use scan::exam_code;
 ghost use mathlib.Core.Path.{_≡_};
 ghost use Prim.Native.Nat.{_+_, _*_, _<_, _≤_};
 ghost use lib.ListN.{length, getD};
@@ -11,7 +9,7 @@ ghost use Rattle.format.specs.Tree.{whole};
 ghost use Rattle.format.specs.Exam.{refuse, examineRecord, examineAll, examinePattern};
 ghost use Rattle.flags.specs.Flags.{Limits, Marked};
 ghost use Rattle.exam.specs.View.{targets, entries, recordAt, patternAt, rlensAt, RowFits, Fits};
-ghost use Rattle.exam.specs.Part.{Cleared, Marks, Coded, exam19Of, examinePart};
+ghost use Rattle.exam.specs.Part.{exam19Of, examinePart};
 
 fn long(x: u32) -> usize
     ensures { λ r. ⌜ (r ≡ x) × (r < 4294967296) ⌝ }
@@ -25,75 +23,6 @@ pub fn word(t: &[u32], i: usize) -> usize
     ensures { λ r. ⌜ (r ≡ getD (now (t .entry)) i 0) × (r < 4294967296) ⌝ }
 {
     long(t[i])
-}
-
-// The first `n` flags become 0.
-fn clear(flags: &mut [u8], n: usize)
-    requires { ⌜ n ≤ length (now flags) ⌝ }
-    ensures { λ _. ⌜ Cleared (now (flags .entry)) n (now (flags .exit)) ⌝ }
-{
-    let mut i: usize = 0;
-    while i < n {
-        flags[i] = 0;
-        i += 1;
-    }
-}
-
-// 16 over the whole record, and the flag of each instruction: 0 where it passes.
-fn exam_16(code: &[u8], flags: &mut [u8], limits: &[u32]) -> u8
-    requires { ⌜ length (now code) ≤ length (now flags) ⌝ }
-    requires { ⌜ Limits (now limits) ⌝ }
-    ensures { λ r. ⌜ Marks (now (limits .entry)) (now (code .entry)) (now (flags .exit)) r ⌝ }
-{
-    if code.len() == 0 {
-        return 16;
-    }
-    clear(flags, code.len());
-    let mut i: usize = 0;
-    while i < code.len() {
-        let d = digits(code[i]);
-        let n = d % 8;
-        if n == 0 {
-            return 16;
-        }
-        if code.len() - i < n {
-            return 16;
-        }
-        flags[i] = flag_at(code, i, d, limits);
-        i += n;
-    }
-    0
-}
-
-// 16 over the whole record, then 17 before 18 at each instruction in turn.
-fn exam_code(code: &[u8], flags: &mut [u8], limits: &[u32]) -> u8
-    requires { ⌜ length (now code) ≤ length (now flags) ⌝ }
-    requires { ⌜ Limits (now limits) ⌝ }
-    ensures { λ r. ⌜ Coded (now (limits .entry)) (now (code .entry)) (now (flags .exit)) r ⌝ }
-{
-    let a = exam_16(code, flags, limits);
-    if a != 0 {
-        return a;
-    }
-    let mut i: usize = 0;
-    while i < code.len() {
-        let v = flags[i];
-        if v < 2 {
-            i += 1;
-        } else {
-            if v == 2 {
-                return 17;
-            }
-            if v > 3 {
-                return 18;
-            }
-            if !lands_at(code, flags, i + digits(code[i]) % 8) {
-                return 18;
-            }
-            i += 1;
-        }
-    }
-    0
 }
 
 // 19 over the `n` handlers from row `first` on.

@@ -1,4 +1,4 @@
--- `exam::exam_code` meets its contract.
+-- `scan::exam_code` meets its contract.
 -- Assumes nothing.
 use borrow.Author.Needs.{needs}
 use native.Mathlib.Omega.{arith}
@@ -8,9 +8,9 @@ use lib.ListN.{length}
 use borrow.Author.Tests.{not-true, not-false}
 use Rattle.flags.specs.Flags.{bare, landsFrom}
 use Rattle.flags.proofs.Goes.{flags-mark}
-use Rattle.exam.proofs.Turns.{Going, going-start, going-skip, going-17, going-18, going-off, going-land, going-end, jump-next, jump-inside, jump-behind, passes, coded-16, coded-stop, coded-end}
-use Rattle.exam.proofs.exam_code.Statement.{statement}
-use Rattle.exam.proofs.exam_code.Tie as tie
+use Rattle.scan.proofs.Going.{Going, going-start, going-skip, going-17, going-18, going-off, going-land, going-end, jump-next, jump-inside, jump-behind, passes, coded-16, coded-stop, coded-end}
+use Rattle.scan.proofs.exam_code.Statement.{statement}
+use Rattle.scan.proofs.exam_code.Tie as tie
 
 abbrev Inv-loop : tie.InvT-loop
 Inv-loop code flags limits a i₀ i = Going (bare limits code) i

@@ -1,13 +1,13 @@
--- `exam::exam_16` meets its contract.
+-- `scan::exam_16` meets its contract.
 -- Assumes nothing.
 use borrow.Author.Needs.{needs}
 use native.Mathlib.Omega.{arith}
 use Prim.Native.Nat.{_-_}
 use mathlib.Core.Path.{_≡_, refl}
 use lib.ListN.{length, length-set}
-use Rattle.exam.proofs.Marks.{Marking, marks-empty, marking-start, marks-unknown, marks-cut, marking-looked, marking-turn, marking-end}
-use Rattle.exam.proofs.exam_16.Statement.{statement}
-use Rattle.exam.proofs.exam_16.Tie as tie
+use Rattle.scan.proofs.Marks.{Marking, marks-empty, marking-start, marks-unknown, marks-cut, marking-looked, marking-turn, marking-end}
+use Rattle.scan.proofs.exam_16.Statement.{statement}
+use Rattle.scan.proofs.exam_16.Tie as tie
 
 abbrev Inv-loop : tie.InvT-loop
 Inv-loop code flags₀ limits i₀ flags i = (length flags ≡ length flags₀) × Marking limits code flags i

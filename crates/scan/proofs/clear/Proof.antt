@@ -1,12 +1,12 @@
--- `exam::clear` meets its contract.
+-- `scan::clear` meets its contract.
 -- Assumes nothing.
 use borrow.Author.Needs.{needs}
 use native.Mathlib.Omega.{arith}
 use Prim.Native.Nat.{_-_}
-use Rattle.exam.specs.Part.{Cleared}
-use Rattle.exam.proofs.Marks.{cleared-start, cleared-turn, cleared-end}
-use Rattle.exam.proofs.clear.Statement.{statement}
-use Rattle.exam.proofs.clear.Tie as tie
+use Rattle.scan.specs.Scan.{Cleared}
+use Rattle.scan.proofs.Marks.{cleared-start, cleared-turn, cleared-end}
+use Rattle.scan.proofs.clear.Statement.{statement}
+use Rattle.scan.proofs.clear.Tie as tie
 
 abbrev Inv-loop : tie.InvT-loop
 Inv-loop flags₀ n i₀ flags i = Cleared flags₀ i flags

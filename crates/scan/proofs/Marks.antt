@@ -19,7 +19,7 @@ use Rattle.runs.proofs.Loops.{firstAt-turn, firstAt-end, reach-turn, reach-over
 use Rattle.flags.specs.Digits.{instruction, digitsOf}
 use Rattle.flags.specs.Flags.{bare, Looked, flagAt, toldAt, Flagged}
 use Rattle.flags.proofs.Numbers.{size-digit, no-digit, some-digit}
-use Rattle.exam.specs.Part.{Cleared, Marks}
+use Rattle.scan.specs.Scan.{Cleared, Marks}
 
 -- the loop that clears, at the flag i
 module _ {before : List ℕ} where

@@ -1,0 +1,4 @@
+pub mod First
+mod Places
+mod Marks
+mod Going
