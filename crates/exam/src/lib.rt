@@ -103,6 +103,7 @@ pub fn examine_record(
     let row = r * 19;
     let place = word(records, row + 6);
     let end = place + word(records, row + 5);
+    // By the number of an operand's role: registers, constants, symbols, children, none.
     let limits: [u32; 5] = [
         records[row + 2],
         records[row + 10],

@@ -8,8 +8,8 @@ ghost use Rattle.format.specs.Pattern.{begins};
 ghost use Rattle.flags.specs.Digits.{digitsOf};
 ghost use Rattle.flags.specs.Flags.{Limits, Operand, operandBelow, Looked, bare, flagAt, Marked, landsFrom};
 
-// The digits of an opcode byte, by operand kind, roles that are not plain, and where a run goes on if not to the next offset. From the right:
-// size; number of the first operand's role and of the second's; flag where the record goes on behind it, and where it ends.
+// Digits by operand kind, roles that are not plain, and where a run goes on if not to the next offset. From the right: size; number of the first
+// operand's role, and of the second's; flag of an instruction with operands below their limits, inside a record and at its end.
 const Z: usize = 0o41441;
 
 const Z_ENDS: usize = 0o11441;
@@ -52,7 +52,7 @@ const S_JUMPS: usize = 0o33443;
 
 const W: usize = 0o41444;
 
-// The digits of an opcode byte, 0 where none begins an instruction.
+// The digits of an opcode byte, 0 where it begins no instruction.
 pub fn digits(b: u8) -> usize
     ensures { λ r. ⌜ r ≡ digitsOf b ⌝ }
 {
