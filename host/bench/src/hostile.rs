@@ -8,24 +8,24 @@ const LAST_SIZE: u32 = 0x1100_0000;
 /// The files with their names.
 pub fn files() -> Vec<(&'static str, Vec<u8>)> {
     vec![
-        ("code of NOP", shared_code(&[NOP])),
-        ("code of sizes 2", shared_code(&[LOADNIL])),
-        ("code of sizes 3", shared_code(&[MOVE])),
+        ("1,024 records that share code: NOP", shared_code(&[NOP])),
+        ("the same: size 2", shared_code(&[LOADNIL])),
+        ("the same: size 3", shared_code(&[MOVE])),
         (
-            "code of sizes 1 and 2 in random order",
+            "the same: sizes 1 and 2 in random order",
             shared_code(&[KEYEND, LOADNIL]),
         ),
         (
-            "code of sizes 1 to 4 in random order",
+            "the same: sizes 1 to 4 in random order",
             shared_code(&[NOP, KEYEND, LOADNIL, ADD, MOVE, ADDI, GETUPVAR, AREF]),
         ),
-        ("code of jumps", shared_code(&[JMP])),
+        ("the same: jumps", shared_code(&[JMP])),
         (
-            "code of NOP and jumps in random order",
-            shared_code(&[NOP, JMP]),
+            "the same: NOP and jumps, two to one, in random order",
+            shared_code(&[NOP, NOP, JMP]),
         ),
         (
-            "code of two kinds of jumps in random order",
+            "the same: two kinds of jumps in random order",
             shared_code(&[JMP, JMPNOT]),
         ),
         (
