@@ -3,12 +3,12 @@
 use Prim.Native.Nat.{ℕ, _+_, _-_, _*_, _≤_, _<_}
 use native.Mathlib.Omega.{arith}
 use mathlib.Core.Path.{_≡_, refl, sym, ap, _∙_, subst}
-use mathlib.Core.Bool.{Bool, true, false, cond, _&&_}
+use mathlib.Core.Bool.{Bool, true, false, cond}
 use mathlib.Core.List.{List}
-use lib.Dec.{T, leb, ltb}
-use lib.ListN.{length, getD}
+use lib.Dec.{T, ltb}
+use lib.ListN.{length}
 use borrow.Author.Tests.{ltb-true, ltb-false, le-leb, lt-leb, lt-ltb}
-use Rattle.format.specs.Bytes.{byte, u16At}
+use Rattle.format.specs.Bytes.{byte}
 use Rattle.format.specs.Insn.{Flow, on, ends, jumps, may, flow, rowAt, next, signed16, jump, target}
 use Rattle.format.specs.Pattern.{Record, begins, lands}
 use Rattle.format.specs.Exam.{leads, hasTarget, operandsBelow, follows, refuse, first, at1718}

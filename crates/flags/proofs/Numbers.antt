@@ -3,7 +3,7 @@
 use Prim.Native.Nat.{ℕ, zero, suc, _/_, _%_, _≤_, _<_}
 use native.Mathlib.Omega.{arith}
 use mathlib.Core.Path.{_≡_, refl, sym, ap, _∙_}
-use mathlib.Core.Bool.{Bool, true, false, cond}
+use mathlib.Core.Bool.{Bool, true, false}
 use borrow.Author.Tests.{le-ltb}
 use Rattle.format.specs.Insn.{Role, reg, pool, sym as symbol, child, plain, Flow, on, ends, jumps, may, kind, flow, row, size}
 use Rattle.runs.proofs.Table.{width-small}

@@ -3,14 +3,14 @@
 -- Assumes nothing.
 use Prim.Native.Nat.{ℕ, zero, suc, _+_, _/_, _%_, _≤_, _<_}
 use native.Mathlib.Omega.{arith}
-use mathlib.Core.Path.{_≡_, refl, sym, ap, _∙_, subst}
+use mathlib.Core.Path.{_≡_, refl, ap, _∙_}
 use mathlib.Core.Bool.{Bool, true, false, _&&_, _||_, not}
 use mathlib.Core.List.{List, [], _∷_}
 use lib.Dec.{T, eqb, leb, ltb, eqb→eq, leb→le}
 use lib.ListN.{length, getD}
 use borrow.Author.Tests.{lt-ltb, le-ltb}
 use Rattle.format.specs.Bytes.{byte}
-use Rattle.format.specs.Insn.{Kind, Role, reg, pool, sym as symbol, child, plain, Row, fields, kind, roles, row, table, width, operand, operands, opcode, rowAt, rest, next}
+use Rattle.format.specs.Insn.{Role, reg, pool, sym as symbol, child, plain, Row, fields, kind, roles, row, table, width, operand, operands, opcode, rowAt, rest, next}
 use Rattle.format.specs.Pattern.{Record}
 use Rattle.format.specs.Exam.{below, allBelow, operandsBelow}
 use Rattle.format.proofs.Table.{both, by-test}

@@ -2,7 +2,7 @@
 use opcode::names::*;
 ghost use mathlib.Core.Path.{_≡_};
 ghost use Prim.Native.Nat.{_+_, _<_, _≤_};
-ghost use lib.ListN.{length, getD};
+ghost use lib.ListN.{length};
 ghost use Rattle.format.specs.Insn.{signed16};
 ghost use Rattle.format.specs.Pattern.{begins};
 ghost use Rattle.flags.specs.Digits.{digitsOf};

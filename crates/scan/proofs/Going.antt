@@ -4,7 +4,7 @@ use Prim.Native.Nat.{ℕ, zero, suc, _+_, _-_, _%_, _≤_, _<_}
 use native.Mathlib.Nat.{zero-add}
 use native.Mathlib.Omega.{arith}
 use mathlib.Core.Path.{_≡_, refl, sym, ap, subst, _∙_}
-use mathlib.Core.Bool.{Bool, true, false, cond, _&&_, not}
+use mathlib.Core.Bool.{Bool, true, false, _&&_, not}
 use mathlib.Core.List.{List}
 use lib.Dec.{T, ltb, leb}
 use lib.ListN.{length, getD, drop}
@@ -15,7 +15,7 @@ use Rattle.format.specs.Exam.{readable, refuse, first, firstAt, at16, at1718, e
 use Rattle.runs.proofs.Jumps.{readable-whole}
 use Rattle.runs.proofs.Tests.{first-zero, refuse-zero, firstAt-zero}
 use Rattle.flags.specs.Digits.{digitsOf}
-use Rattle.flags.specs.Flags.{bare, flagAt, judged, toldAt, Flagged, landsFrom}
+use Rattle.flags.specs.Flags.{bare, flagAt, judged, Flagged, landsFrom}
 use Rattle.flags.proofs.Numbers.{size-digit}
 use Rattle.flags.proofs.Goes.{flags-mark, flag-wide, judged-is}
 use Rattle.scan.specs.Scan.{Marks, Coded}

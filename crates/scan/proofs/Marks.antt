@@ -1,23 +1,23 @@
 -- The loop that tests 16 and sets the flags: it goes from instruction to instruction over flags that are 0.
 -- Assumes nothing.
-use Prim.Native.Nat.{ℕ, suc, _+_, _-_, _%_, _≤_, _<_}
+use Prim.Native.Nat.{ℕ, _+_, _-_, _%_, _≤_, _<_}
 use native.Mathlib.Nat.{sub-zero, eq-or-lt-of-le}
 use native.Mathlib.Omega.{arith}
 use mathlib.Core.Path.{_≡_, refl, sym, ap, _∙_}
 use mathlib.Core.Logic.{_⊎_, inl, inr}
-use mathlib.Core.Bool.{Bool, true, false, cond, _&&_, not}
+use mathlib.Core.Bool.{Bool, true, false, _&&_, not}
 use mathlib.Core.List.{List}
 use lib.Dec.{ltb, leb}
 use lib.ListN.{length, getD, set, drop, length-set}
 use lib.Seq.{drop-cons, getD-set-same, getD-set-other}
 use borrow.Author.Tests.{ltb-true, ltb-false, lt-ltb, le-leb, lt-leb}
 use Rattle.format.specs.Bytes.{byte}
-use Rattle.format.specs.Insn.{known, prefix, size, opcode, rest, next}
+use Rattle.format.specs.Insn.{known, prefix, opcode, rest, next}
 use Rattle.format.specs.Pattern.{reach, begins}
 use Rattle.format.specs.Exam.{readable, refuse, first, firstAt, at16, exam16}
 use Rattle.runs.proofs.Loops.{firstAt-turn, firstAt-end, reach-turn, reach-over}
 use Rattle.flags.specs.Digits.{instruction, digitsOf}
-use Rattle.flags.specs.Flags.{bare, Looked, flagAt, toldAt, Flagged}
+use Rattle.flags.specs.Flags.{bare, Looked, flagAt, toldAt}
 use Rattle.flags.proofs.Numbers.{size-digit, no-digit, some-digit}
 use Rattle.scan.specs.Scan.{Cleared, Marks}
 

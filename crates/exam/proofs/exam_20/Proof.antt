@@ -1,7 +1,6 @@
 -- `exam::exam_20` meets its contract.
 -- Assumes nothing.
 use borrow.Author.Needs.{needs}
-use native.Mathlib.Omega.{arith}
 use Prim.Native.Nat.{_-_, _+_}
 use Rattle.exam.proofs.Turns.{Risen, risen-start, risen-turn, risen-bad, risen-end}
 use Rattle.exam.proofs.exam_20.Statement.{statement}

@@ -1,6 +1,5 @@
 -- `exam::examine_part` meets its contract.
 -- Assumes nothing.
-use mathlib.Core.Path.{_∙_}
 use Rattle.scan.proofs.First.{first-some}
 use borrow.Author.Needs.{needs}
 use Rattle.exam.proofs.examine_part.Statement.{statement}

@@ -1,7 +1,6 @@
 -- `exam::whole_tree` meets its contract.
 -- Assumes nothing.
 use borrow.Author.Needs.{needs}
-use native.Mathlib.Omega.{arith}
 use Prim.Native.Nat.{_-_}
 use Rattle.exam.proofs.Join.{Laid, laid-start, laid-turn, laid-bad, laid-end}
 use Rattle.exam.proofs.whole_tree.Statement.{statement}

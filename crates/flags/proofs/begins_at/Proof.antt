@@ -2,7 +2,6 @@
 -- Assumes nothing.
 use native.Mathlib.Omega.{arith}
 use Rattle.flags.proofs.Goes.{begins-out}
-use borrow.Author.Needs.{needs}
 use Rattle.flags.proofs.begins_at.Statement.{statement}
 use Rattle.flags.proofs.begins_at.Tie as tie
 

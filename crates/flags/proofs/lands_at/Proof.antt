@@ -1,6 +1,5 @@
 -- `flags::lands_at` meets its contract.
 -- Assumes nothing.
-use native.Mathlib.Omega.{arith}
 use mathlib.Core.Path.{_∙_}
 use Rattle.flags.proofs.Goes.{lands-before, lands-there}
 use borrow.Author.Needs.{needs}

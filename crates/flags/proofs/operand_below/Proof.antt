@@ -1,7 +1,6 @@
 -- `flags::operand_below` meets its contract.
 -- Assumes nothing.
 use native.Mathlib.Omega.{arith}
-use mathlib.Core.Path.{_∙_}
 use Rattle.flags.proofs.Roles.{below-limit, below-none}
 use borrow.Author.Needs.{needs}
 use Rattle.flags.proofs.operand_below.Statement.{statement}
