@@ -35,7 +35,7 @@ const SYMBOL_BYTES: usize = 3;
 ///
 /// Bytes where records overlap are read once for each, as rows of records, handlers, constants and symbols.
 /// The other rows are read one behind the other: each has at least the bytes that the length is divided by.
-fn rows(length: usize, overlap: usize) -> [usize; 9] {
+pub fn rows(length: usize, overlap: usize) -> [usize; 9] {
     [
         RECORD_LIMIT.min(length / RECORD_BYTES * overlap),
         length / HANDLER_BYTES * overlap,
@@ -78,7 +78,7 @@ fn tries(length: usize) -> impl Iterator<Item = [usize; 9]> {
 }
 
 /// Tables of zeros with so many rows.
-fn zeros(rows: [usize; 9]) -> Words {
+pub fn zeros(rows: [usize; 9]) -> Words {
     std::array::from_fn(|t| vec![0; rows[t] * ROW_WORDS[t]])
 }
 

@@ -4,7 +4,7 @@ mod common;
 
 use blotheath::answer::BlotheathRecord;
 use blotheath::ffi;
-use blotheath::tables::{RECORDS, ROW_WORDS, Words, zeros};
+use blotheath::tables::{self, RECORDS, ROW_WORDS, Words};
 use common::{Numbers, damaged, files, sample_bytes};
 use std::fs;
 
@@ -35,7 +35,8 @@ fn words(row: &BlotheathRecord) -> [u32; 19] {
 
 /// Tables and rows that hold garbage before the call.
 fn garbage(file: &[u8], overlap: usize, rows: usize) -> (Words, Vec<BlotheathRecord>) {
-    let tables = zeros(file.len(), overlap).map(|table| vec![0xdead_beef; table.len()]);
+    let tables = tables::zeros(tables::rows(file.len(), overlap))
+        .map(|table| vec![0xdead_beef; table.len()]);
     let row = BlotheathRecord {
         size: 7,
         place: 7,
@@ -73,7 +74,7 @@ fn check(file: &[u8], overlap: usize, lent: usize) -> u32 {
 
 /// Fewer rows than records, as many as the table has, and more.
 fn check_lengths(file: &[u8], overlap: usize) -> u32 {
-    let rows = zeros(file.len(), overlap)[RECORDS].len() / ROW_WORDS[RECORDS];
+    let rows = tables::rows(file.len(), overlap)[RECORDS];
     let mut refusals = [0, 1, 2, rows, rows + 3].map(|lent| check(file, overlap, lent));
     refusals.sort_unstable();
     assert_eq!(refusals[0], refusals[4]);
