@@ -5,7 +5,6 @@ use Rattle.boundary.specs.Structs.{debugFileIs}
 use borrow.Author.Needs.{needs}
 use Rattle.blotheath.proofs.blotheath_debug_file.Statement.{statement}
 use Rattle.blotheath.proofs.blotheath_debug_file.Tie as tie
-use Rattle.lookup.proofs.debug_file.Reads as debug-file-reads′
 
 debug-file-requires : tie.Need-debug-file-requires
 debug-file-requires c κs = search needs

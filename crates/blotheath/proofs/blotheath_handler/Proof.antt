@@ -5,7 +5,6 @@ use Rattle.boundary.specs.Structs.{handlerIs}
 use borrow.Author.Needs.{needs}
 use Rattle.blotheath.proofs.blotheath_handler.Statement.{statement}
 use Rattle.blotheath.proofs.blotheath_handler.Tie as tie
-use Rattle.lookup.proofs.handler.Reads as handler-reads′
 
 handler-requires : tie.Need-handler-requires
 handler-requires c κs = search needs

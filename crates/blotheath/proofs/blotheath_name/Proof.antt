@@ -5,7 +5,6 @@ use Rattle.boundary.specs.Structs.{nameIs}
 use borrow.Author.Needs.{needs}
 use Rattle.blotheath.proofs.blotheath_name.Statement.{statement}
 use Rattle.blotheath.proofs.blotheath_name.Tie as tie
-use Rattle.lookup.proofs.name.Reads as name-reads′
 
 name-requires : tie.Need-name-requires
 name-requires c κs = search needs
