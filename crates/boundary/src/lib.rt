@@ -18,7 +18,7 @@ ghost use Rattle.line.specs.Answers as line;
 ghost use Rattle.rite.specs.Answers as rite;
 ghost use Rattle.constant.specs.Answers as constant;
 ghost use Rattle.ranges.specs.Answers as ranges;
-ghost use Rattle.lookup.specs.Answers as lookup;
+ghost use Rattle.entries.specs.Answers as entries;
 ghost use Rattle.run.specs.Answers as run;
 ghost use Rattle.boundary.specs.Structs.{given, instructionIs, fetchedIs, lineIs, rowsIs, loadedIs, textIs, handlerIs, valueIs, constantIs, nameIs, debugFileIs, lookedLineIs, followedIs};
 
@@ -233,7 +233,7 @@ pub fn text(a: TextAnswer) -> BlotheathText
 }
 
 pub fn handler(a: HandlerAnswer) -> BlotheathHandler
-    ensures { λ r. ⌜ r ≡ handlerIs (lookup.handlerOf a) ⌝ }
+    ensures { λ r. ⌜ r ≡ handlerIs (entries.handlerOf a) ⌝ }
 {
     match a {
         HandlerAnswer::Row {
@@ -314,7 +314,7 @@ pub fn constant(a: PoolAnswer) -> BlotheathConstant
 }
 
 pub fn name(a: NameAnswer) -> BlotheathName
-    ensures { λ r. ⌜ r ≡ nameIs (lookup.nameOf a) ⌝ }
+    ensures { λ r. ⌜ r ≡ nameIs (entries.nameOf a) ⌝ }
 {
     match a {
         NameAnswer::Named { place, length } => BlotheathName {
@@ -339,7 +339,7 @@ pub fn name(a: NameAnswer) -> BlotheathName
 }
 
 pub fn debug_file(a: DebugFileAnswer) -> BlotheathDebugFile
-    ensures { λ r. ⌜ r ≡ debugFileIs (lookup.debugFileOf a) ⌝ }
+    ensures { λ r. ⌜ r ≡ debugFileIs (entries.debugFileOf a) ⌝ }
 {
     match a {
         DebugFileAnswer::Row {
@@ -368,7 +368,7 @@ pub fn debug_file(a: DebugFileAnswer) -> BlotheathDebugFile
 }
 
 pub fn looked_line(a: LineAnswer) -> BlotheathLookedLine
-    ensures { λ r. ⌜ r ≡ lookedLineIs (lookup.lineOf a) ⌝ }
+    ensures { λ r. ⌜ r ≡ lookedLineIs (entries.lineOf a) ⌝ }
 {
     match a {
         LineAnswer::At(l) => BlotheathLookedLine {

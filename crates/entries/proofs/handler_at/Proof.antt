@@ -1,15 +1,15 @@
--- `lookup::constant_at` meets its contract.
+-- `entries::handler_at` meets its contract.
 -- Assumes nothing.
 use native.Mathlib.Nat.{add-zero}
 use borrow.Author.Needs.{needs}
-use Rattle.lookup.proofs.constant_at.Statement.{statement}
-use Rattle.lookup.proofs.constant_at.Tie as tie
+use Rattle.entries.proofs.handler_at.Statement.{statement}
+use Rattle.entries.proofs.handler_at.Tie as tie
 
 returns : tie.Need-returns
-returns c = rw add-zero (c .constant-of .ensures)
+returns c = rw add-zero
 
-pub constant-at-spec : {M : Type 1} → statement M
-constant-at-spec =
+pub handler-at-spec : {M : Type 1} → statement M
+handler-at-spec =
     tie.close
     (tie.spec
     (λ c. search needs)
@@ -21,5 +21,7 @@ constant-at-spec =
     (λ c. search needs)
     (λ c. search needs)
     (λ c. search needs)
-    (λ c κs. search needs)
+    (λ c. search needs)
+    (λ c. search needs)
+    (λ c. search needs)
     returns)

@@ -1,12 +1,12 @@
--- `lookup::line_in` meets its contract.
+-- `entries::line_in` meets its contract.
 -- Assumes nothing.
 use mathlib.Core.Path.{sym, ap, _∙_}
 use Rattle.line.specs.Answers.{lineOf}
-use Rattle.lookup.proofs.Laws.{line-none, line-past, line-part}
+use Rattle.entries.proofs.Laws.{line-none, line-past, line-part}
 use native.Mathlib.Omega.{arith}
 use borrow.Author.Needs.{needs}
-use Rattle.lookup.proofs.line_in.Statement.{statement}
-use Rattle.lookup.proofs.line_in.Tie as tie
+use Rattle.entries.proofs.line_in.Statement.{statement}
+use Rattle.entries.proofs.line_in.Tie as tie
 
 returns : tie.Need-returns
 returns c = line-none (c .before .before .args .lines .now) (c .before .before .args .first) (c .before .before .args .number) (c .before .before .args .offset .0) (c .if1 .taken)

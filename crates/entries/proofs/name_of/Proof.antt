@@ -1,4 +1,4 @@
--- `lookup::name_of` meets its contract.
+-- `entries::name_of` meets its contract.
 -- Assumes nothing.
 use borrow.Author.Tests.{eq-eqb, ne-eqb}
 use mathlib.Core.Path.{_≡_, sym, ap, _∙_}
@@ -6,8 +6,8 @@ use Rattle.format.specs.Lookup.{textIn, nameOf}
 use Rattle.ranges.specs.declared.TextAnswer.the-variants.{At, Refused}
 use Rattle.ranges.specs.Answers.{textOf}
 use borrow.Author.Needs.{needs}
-use Rattle.lookup.proofs.name_of.Statement.{statement}
-use Rattle.lookup.proofs.name_of.Tie as tie
+use Rattle.entries.proofs.name_of.Statement.{statement}
+use Rattle.entries.proofs.name_of.Tie as tie
 
 returns : tie.Need-returns
 unfolding nameOf

@@ -1,4 +1,4 @@
--- `lookup::debug_file_at` meets its contract.
+-- `entries::debug_file_at` meets its contract.
 -- Assumes nothing.
 use borrow.Author.Tests.{not-true, not-false}
 use mathlib.Core.Path.{_≡_, sym, ap, _∙_}
@@ -10,8 +10,8 @@ use Rattle.format.specs.Lookup.{textIn, rowsIn, debugFileOf}
 use Rattle.ranges.specs.declared.TextAnswer.the-variants.{At, Refused}
 use Rattle.ranges.specs.Answers.{textOf}
 use borrow.Author.Needs.{needs}
-use Rattle.lookup.proofs.debug_file_at.Statement.{statement}
-use Rattle.lookup.proofs.debug_file_at.Tie as tie
+use Rattle.entries.proofs.debug_file_at.Statement.{statement}
+use Rattle.entries.proofs.debug_file_at.Tie as tie
 
 cast-text-in : tie.Need-cast-text-in
 cast-text-in c = record { fits = omega (arith, c .shared-slice-known7 .given (c .before .before .before .before .before .before .before .args .i * 4 + 1)) }

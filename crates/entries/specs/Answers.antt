@@ -5,14 +5,14 @@ use mathlib.Core.Option.{Option, none, some}
 use Rattle.format.specs.Bytes.{Answer, ok, refused}
 use Rattle.format.specs.Rows.{HandlerRow, TextRow, textRow}
 use Rattle.format.specs.Lookup as format
-use Rattle.lookup.specs.declared.HandlerAnswer.{HandlerAnswer}
-use Rattle.lookup.specs.declared.HandlerAnswer.the-variants as handler
-use Rattle.lookup.specs.declared.NameAnswer.{NameAnswer}
-use Rattle.lookup.specs.declared.NameAnswer.the-variants as name
-use Rattle.lookup.specs.declared.DebugFileAnswer.{DebugFileAnswer}
-use Rattle.lookup.specs.declared.DebugFileAnswer.the-variants as debug-file
-use Rattle.lookup.specs.declared.LineAnswer.{LineAnswer}
-use Rattle.lookup.specs.declared.LineAnswer.the-variants as line
+use Rattle.entries.specs.declared.HandlerAnswer.{HandlerAnswer}
+use Rattle.entries.specs.declared.HandlerAnswer.the-variants as handler
+use Rattle.entries.specs.declared.NameAnswer.{NameAnswer}
+use Rattle.entries.specs.declared.NameAnswer.the-variants as name
+use Rattle.entries.specs.declared.DebugFileAnswer.{DebugFileAnswer}
+use Rattle.entries.specs.declared.DebugFileAnswer.the-variants as debug-file
+use Rattle.entries.specs.declared.LineAnswer.{LineAnswer}
+use Rattle.entries.specs.declared.LineAnswer.the-variants as line
 
 abbrev pub handlerOf : HandlerAnswer → Answer HandlerRow
 handlerOf (handler.Row kind begin end target) = ok (record { kind = kind; begin = begin; end = end; target = target })
