@@ -1,7 +1,7 @@
 // Examination of a file: it is loaded, then tested for 15 to 20.
 use exam::examine_tables;
 use rite::Loaded;
-use rite::clear_all;
+use tables::clear_all;
 ghost use mathlib.Core.Path.{_≡_};
 ghost use Rattle.format.specs.Load.{laid};
 ghost use Rattle.format.specs.Exam.{examine};

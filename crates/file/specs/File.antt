@@ -3,23 +3,20 @@
 use Prim.Native.Nat.{ℕ, zero, suc, _+_}
 use mathlib.Core.Bool.{cond}
 use mathlib.Core.List.{List}
-use lib.Dec.{eqb, ltb}
+use lib.Dec.{eqb}
 use lib.ListN.{length}
 use Rattle.format.specs.Bytes.{has}
-use Rattle.format.specs.File.{majorIs04}
 use Rattle.format.specs.Load.{Words}
 use Rattle.sections.specs.declared.Progress.{Progress}
 use Rattle.sections.specs.declared.Section.{Section}
 use Rattle.sections.specs.declared.Section.the-variants as section
-use Rattle.sections.specs.declared.Mark.{Mark}
-use Rattle.sections.specs.declared.Mark.the-variants as mark-is
-use Rattle.sections.specs.Sections.{markOf, begun, IrepOut, LvarOut, DbgOut, irepOutOf, lvarOutOf, dbgOutOf, endOutOf}
+use Rattle.marks.specs.declared.Mark.{Mark}
+use Rattle.marks.specs.declared.Mark.the-variants as mark-is
+use Rattle.marks.specs.Marks.{markOf, fileRefusal}
+use Rattle.sections.specs.Sections.{begun, IrepOut, LvarOut, DbgOut, irepOutOf, lvarOutOf, dbgOutOf, endOutOf}
 use Rattle.file.specs.declared.Loaded.{Loaded}
 use Rattle.file.specs.declared.Loaded.the-variants as loaded-is
-
--- the contents of nine tables
-abbrev pub words : List ℕ → List ℕ → List ℕ → List ℕ → List ℕ → List ℕ → List ℕ → List ℕ → List ℕ → Words
-words a b c d e g h i j = record { records = a; handlers = b; pool = c; symbols = d; strings = e; names = g; fileNames = h; files = i; lines = j }
+pub use Rattle.tables.specs.Tables.{words}
 
 -- a section's answer with the nine tables as they are then
 pub record Out : Type 0 where
@@ -103,10 +100,6 @@ sectionsOut f limit (suc n) at t p =
     (let o = sectionOut f limit at t p in
     onSection (o .ans) (λ size q. sectionsOut f limit n (at + size) (o .tables) q) (λ e. loaded (loaded-is.Refused e) (o .tables)))
     (loaded (loaded-is.Rows (p .used)) t)
-
--- the refusal of a file by its size and its header, 0 for none
-unfoldable pub fileRefusal : List ℕ → ℕ
-fileRefusal f = cond (ltb 65536 (length f)) 1 (cond (ltb (length f) 20) 2 (cond (majorIs04 f) (cond (ltb (length f) 32) 4 0) 3))
 
 -- a file's tests, then its sections
 unfoldable pub fileOut : List ℕ → ℕ → Words → FileOut

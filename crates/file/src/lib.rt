@@ -1,7 +1,8 @@
 // A file: its tests, then its sections in turn, into nine lent tables.
 use binfmt::rest;
-use headers::RiteBinaryHeader;
-use sections::Mark;
+use marks::Mark;
+use marks::file_refusal;
+use marks::peek4;
 use sections::Progress;
 use sections::Section;
 use sections::Used;
@@ -10,12 +11,11 @@ use sections::end_at;
 use sections::irep_at;
 use sections::lvar_at;
 use sections::nothing_read;
-use sections::peek4;
 ghost use mathlib.Core.Path.{_≡_};
 ghost use Prim.Native.Nat.{_+_, _≤_};
 ghost use lib.ListN.{length};
 ghost use Rattle.sections.specs.Sections.{begun};
-ghost use Rattle.file.specs.File.{words, out, sectionOut, loaded, sectionsOut, fileRefusal, fileOut};
+ghost use Rattle.file.specs.File.{words, out, sectionOut, loaded, sectionsOut, fileOut};
 
 // What a load answers: the rows used of each table, or a refusal's number.
 pub enum Loaded {
@@ -103,31 +103,6 @@ fn read_sections(
     }
     let u = p.used;
     Loaded::Rows(u)
-}
-
-// The refusal of a file by its size and its header, 0 for none.
-fn file_refusal(f: &[u8]) -> u8
-    ensures { λ r. ⌜ r ≡ fileRefusal (now (f .entry)) ⌝ }
-{
-    if 65536 < f.len() {
-        return 1;
-    }
-    let h = RiteBinaryHeader::from_bytes(f);
-    if h.refusal != 0 {
-        return 2;
-    }
-    let header = h.header;
-    let major = header.major_version;
-    if major[0] != b'0' {
-        return 3;
-    }
-    if major[1] != b'4' {
-        return 3;
-    }
-    if f.len() < 32 {
-        return 4;
-    }
-    0
 }
 
 // A file: its tests, then its sections.

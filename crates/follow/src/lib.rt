@@ -1,10 +1,10 @@
 // The run of a file along a list of choices: it is loaded and examined, then followed.
 use examine::load_passing;
 use rite::Loaded;
-use rite::clear_all;
 use rows::clear;
 use run::Followed;
 use run::follow_tables;
+use tables::clear_all;
 ghost use mathlib.Core.Path.{_≡_};
 ghost use lib.ListN.{length};
 ghost use Rattle.format.specs.Run.{follow};

@@ -8,7 +8,8 @@ use mathlib.Core.List.{List}
 use lib.Dec.{eqb}
 use lib.ListN.{length}
 use borrow.Author.Tests.{ne-eqb, leb-true, leb-false, lt-leb, le-leb}
-use Rattle.format.specs.Bytes.{ok, refused, has, reads, u32At}
+use Rattle.format.specs.Bytes.{ok, refused, reads, u32At}
+use Rattle.headers.proofs.Fields.{field-there, field-short}
 use Rattle.rows.specs.declared.Rows.{Rows}
 use Rattle.rows.specs.declared.Rows.the-variants.{Next, Refused}
 use Rattle.rows.specs.Table.{Out, out, onRows, times}
@@ -57,21 +58,6 @@ module _ (f : List ℕ) (strings count : ℕ) where
 
   pub lv-rec : (p : ℕ) (st st′ : State) → go st′ ≡ lvWalk f strings count p st → st .rec ≤ st′ .rec
   lv-rec p st st′ e = walk-rec (lvStep f strings) lvKids never (λ x. x .rec) (lv-next f strings) count (count - st .rec) p st st′ (sym e)
-
--- what a field that was read, or not, says of the bytes and of its value
-pub field-there : (f : List ℕ) (at n v x : ℕ) → ok x ≡ reads f at n v → (has f at n ≡ true) × (x ≡ v)
-field-there f at n v x e = by-has (has f at n) e
-  where
-    by-has : (b : Bool) → ok x ≡ cond b (ok v) (refused 7) → (b ≡ true) × (x ≡ v)
-    by-has true q = (refl, cc)
-    by-has false q = absurd (let z : _≡_ {A = ℕ} 0 1 = cc in omega arith)
-
-pub field-short : (f : List ℕ) (at n v k : ℕ) → refused k ≡ reads f at n v → has f at n ≡ false
-field-short f at n v k e = by-has (has f at n) e
-  where
-    by-has : (b : Bool) → refused k ≡ cond b (ok v) (refused 7) → b ≡ false
-    by-has true q = absurd (let z : _≡_ {A = ℕ} 0 1 = cc in omega arith)
-    by-has false q = refl
 
 -- the section: its header or its string count is cut, its strings are read, its walk is made
 module _ (f : List ℕ) (base count : ℕ) (rs ss ns : List ℕ) where

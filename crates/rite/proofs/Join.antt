@@ -34,12 +34,13 @@ use Rattle.rite.proofs.Fits.{Room, room-less, fits-true, fits-false}
 use Rattle.sections.specs.declared.Used.{Used}
 use Rattle.sections.specs.declared.Progress.{Progress}
 use Rattle.sections.specs.declared.Section.the-variants as section
-use Rattle.sections.specs.declared.Mark.the-variants as mark-is
+use Rattle.marks.specs.declared.Mark.the-variants as mark-is
 use Rattle.file.specs.declared.Loaded.{Loaded}
 use Rattle.file.specs.declared.Loaded.the-variants as loaded-is
 use Rattle.rite.specs.Answers.{loadedOf}
-use Rattle.sections.specs.Sections.{begun, markOf, irepOutOf, lvarOutOf, dbgOutOf, endOutOf}
-use Rattle.file.specs.File.{Out, out, byMark, FileOut, loaded, sectionOut, sectionsOut, fileRefusal, fileOut}
+use Rattle.marks.specs.Marks.{markOf, fileRefusal}
+use Rattle.sections.specs.Sections.{begun, irepOutOf, lvarOutOf, dbgOutOf, endOutOf}
+use Rattle.file.specs.File.{Out, out, byMark, FileOut, loaded, sectionOut, sectionsOut, fileOut}
 
 -- how far reading has come, by what was read
 abbrev isSome : {A : Type 0} → Option A → Bool

@@ -1,13 +1,12 @@
 -- What a load answers, case by case, and the lengths of nine tables.
 -- Assumes nothing.
-use mathlib.Core.Path.{_≡_}
-use lib.ListN.{length, replicate}
+use lib.ListN.{length}
 use Rattle.format.specs.Bytes.{Answer, ok, refused}
 use Rattle.format.specs.Load as format
 use Rattle.sections.specs.declared.Used.{Used}
 use Rattle.file.specs.declared.Loaded.{Loaded}
 use Rattle.file.specs.declared.Loaded.the-variants as loaded
-pub use Rattle.file.specs.File.{words}
+pub use Rattle.tables.specs.Tables.{words, Zeros}
 
 -- their lengths
 abbrev pub sizes : format.Words → format.Nine
@@ -24,15 +23,3 @@ answerOf (loaded.Refused e) = refused e
 
 abbrev pub loadedOf : Loaded → format.Words → format.Loaded
 loadedOf r t = record { answer = answerOf r; tables = t }
-
--- every table after is zeros, as many as before
-pub record Zeros (t t′ : format.Words) : Type 0 where
-  pub records : t′ .records ≡ replicate (length (t .records)) 0
-  pub handlers : t′ .handlers ≡ replicate (length (t .handlers)) 0
-  pub pool : t′ .pool ≡ replicate (length (t .pool)) 0
-  pub symbols : t′ .symbols ≡ replicate (length (t .symbols)) 0
-  pub strings : t′ .strings ≡ replicate (length (t .strings)) 0
-  pub names : t′ .names ≡ replicate (length (t .names)) 0
-  pub fileNames : t′ .fileNames ≡ replicate (length (t .fileNames)) 0
-  pub files : t′ .files ≡ replicate (length (t .files)) 0
-  pub lines : t′ .lines ≡ replicate (length (t .lines)) 0

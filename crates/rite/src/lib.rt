@@ -1,36 +1,11 @@
 // Loading a file into nine lent tables that are cleared first, and cleared again after a refusal.
 use file::read_file;
-use rows::clear;
+use tables::clear_all;
 ghost use mathlib.Core.Path.{_≡_};
 ghost use Rattle.format.specs.Load.{load};
-ghost use Rattle.rite.specs.Answers.{words, sizes, Zeros, loadedOf};
+ghost use Rattle.rite.specs.Answers.{words, sizes, loadedOf};
 pub use file::Loaded;
 pub use sections::Used;
-
-// Every word of the nine tables becomes 0.
-pub fn clear_all(
-    records: &mut [u32],
-    handlers: &mut [u32],
-    pool: &mut [u32],
-    symbols: &mut [u32],
-    strings: &mut [u32],
-    names: &mut [u32],
-    filenames: &mut [u32],
-    files: &mut [u32],
-    lines: &mut [u32],
-)
-    ensures { λ _. ⌜ Zeros (words (now (records .entry)) (now (handlers .entry)) (now (pool .entry)) (now (symbols .entry)) (now (strings .entry)) (now (names .entry)) (now (filenames .entry)) (now (files .entry)) (now (lines .entry))) (words (now (records .exit)) (now (handlers .exit)) (now (pool .exit)) (now (symbols .exit)) (now (strings .exit)) (now (names .exit)) (now (filenames .exit)) (now (files .exit)) (now (lines .exit))) ⌝ }
-{
-    clear(records);
-    clear(handlers);
-    clear(pool);
-    clear(symbols);
-    clear(strings);
-    clear(names);
-    clear(filenames);
-    clear(files);
-    clear(lines);
-}
 
 // Loads a file into nine lent tables, with at most 1,024 records: the tables hold the rows that were read, then zeros; after a refusal zeros alone.
 pub fn load(

@@ -1,13 +1,12 @@
 -- Each section at a place as a step over how far reading has come and the lent tables that are its own.
 -- Assumes nothing.
-use Prim.Native.Nat.{ℕ, _+_}
-use mathlib.Core.Bool.{Bool, true, false, cond, _&&_}
+use Prim.Native.Nat.{ℕ}
+use mathlib.Core.Bool.{true, false, cond}
 use mathlib.Core.List.{List}
-use lib.Dec.{eqb, ltb}
+use lib.Dec.{ltb}
 use lib.ListN.{length, drop}
-use Rattle.format.specs.Bytes.{onAnswer, byte}
-use Rattle.format.specs.Headers as mark
-use Rattle.format.specs.File.{isMark, endSection}
+use Rattle.format.specs.Bytes.{onAnswer}
+use Rattle.format.specs.File.{endSection}
 use Rattle.rows.specs.Table.{rowCount}
 use Rattle.irep.specs.declared.Used.{Used as IrepUsed}
 use Rattle.irep.specs.declared.Section.{Section as IrepAnswer}
@@ -22,20 +21,6 @@ use Rattle.debug.specs.Section.{tables, debugOf}
 use Rattle.sections.specs.declared.Progress.{Progress}
 use Rattle.sections.specs.declared.Section.{Section}
 use Rattle.sections.specs.declared.Section.the-variants as section
-use Rattle.sections.specs.declared.Mark.{Mark}
-use Rattle.sections.specs.declared.Mark.the-variants as mark-is
-
--- the four bytes at a place are these
-abbrev pub matches : List ℕ → ℕ → ℕ → ℕ → ℕ → ℕ → Bool
-matches f at a b c d = eqb (byte f at) a && eqb (byte f (at + 1)) b && eqb (byte f (at + 2)) c && eqb (byte f (at + 3)) d
-
--- the mark at a place
-unfoldable pub markOf : List ℕ → ℕ → Mark
-markOf f at =
-    cond (isMark f at mark.irep) mark-is.Irep
-    (cond (isMark f at mark.lvar) mark-is.Lvar
-    (cond (isMark f at mark.dbg) mark-is.Dbg
-    (cond (isMark f at mark.end) mark-is.End mark-is.Unknown)))
 
 -- how far reading has come: at first, and behind each section
 abbrev pub begun : Progress

@@ -1,13 +1,11 @@
 // One section at a place of a file, into the lent tables that are its own.
-use binfmt::Field32;
-use headers::section_size;
+use marks::Size;
+use marks::section_end;
 use rows::row_count;
 ghost use mathlib.Core.Path.{_≡_};
-ghost use Prim.Native.Nat.{_+_, _≤_};
+ghost use Prim.Native.Nat.{_≤_};
 ghost use lib.ListN.{length};
-ghost use Rattle.format.specs.File.{endSection};
-ghost use Rattle.sections.specs.Answers.{sizeOf};
-ghost use Rattle.sections.specs.Sections.{matches, markOf, begun, withIrep, withLvar, withDbg, irepOut, irepOutOf, lvarOut, lvarOutOf, dbgOut, dbgOutOf, endOutOf};
+ghost use Rattle.sections.specs.Sections.{begun, withIrep, withLvar, withDbg, irepOut, irepOutOf, lvarOut, lvarOutOf, dbgOut, dbgOutOf, endOutOf};
 
 // How many rows of each table are used.
 pub struct Used {
@@ -34,74 +32,6 @@ pub struct Progress {
 pub enum Section {
     Next { size: u32, progress: Progress },
     Refused(u8),
-}
-
-// A section's size, or a refusal's number.
-enum Size {
-    Stated(u32),
-    Refused(u8),
-}
-
-// The mark of a section.
-pub enum Mark {
-    Irep,
-    Lvar,
-    Dbg,
-    End,
-    Unknown,
-}
-
-// Whether the four bytes at a place are these.
-fn is_mark(f: &[u8], at: usize, a: u8, b: u8, c: u8, d: u8) -> bool
-    requires { ⌜ at + 4 ≤ length (now f) ⌝ }
-    ensures { λ r. ⌜ r ≡ matches (now (f .entry)) at a b c d ⌝ }
-{
-    if f[at] != a {
-        return false;
-    }
-    if f[at + 1] != b {
-        return false;
-    }
-    if f[at + 2] != c {
-        return false;
-    }
-    f[at + 3] == d
-}
-
-// The mark at a place.
-pub fn peek4(f: &[u8], at: usize) -> Mark
-    requires { ⌜ at + 4 ≤ length (now f) ⌝ }
-    ensures { λ r. ⌜ r ≡ markOf (now (f .entry)) at ⌝ }
-{
-    if is_mark(f, at, b'I', b'R', b'E', b'P') {
-        return Mark::Irep;
-    }
-    if is_mark(f, at, b'L', b'V', b'A', b'R') {
-        return Mark::Lvar;
-    }
-    if is_mark(f, at, b'D', b'B', b'G', 0) {
-        return Mark::Dbg;
-    }
-    if is_mark(f, at, b'E', b'N', b'D', 0) {
-        return Mark::End;
-    }
-    Mark::Unknown
-}
-
-// The size of a section of which nothing else is looked at.
-fn section_end(f: &[u8]) -> Size
-    ensures { λ r. ⌜ sizeOf r ≡ endSection (now (f .entry)) ⌝ }
-{
-    let Field32::Value(size) = section_size(f) else {
-        return Size::Refused(7);
-    };
-    if size == 0 {
-        return Size::Refused(8);
-    }
-    if f.len() < (size as usize) {
-        return Size::Refused(7);
-    }
-    Size::Stated(size)
 }
 
 // Nothing has come, and no row is used.

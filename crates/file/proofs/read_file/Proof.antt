@@ -2,7 +2,7 @@
 -- Assumes nothing.
 use borrow.Author.Tests.{eq-eqb, ne-eqb}
 use Rattle.file.specs.File.{fileOut}
-use Rattle.file.proofs.Laws.{small-file}
+use Rattle.marks.proofs.Laws.{small-file}
 use borrow.Author.Needs.{needs}
 use Rattle.file.proofs.read_file.Statement.{statement}
 use Rattle.file.proofs.read_file.Tie as tie

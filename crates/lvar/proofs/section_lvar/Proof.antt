@@ -7,7 +7,8 @@ use Rattle.binfmt.specs.Answers.{field32Of}
 use Rattle.rows.specs.Table.{out}
 use Rattle.lvar.specs.Names.{outOf}
 use Rattle.lvar.specs.Section.{walked}
-use Rattle.lvar.proofs.Laws.{field-there, section-cut, section-strings}
+use Rattle.headers.proofs.Fields.{field-there}
+use Rattle.lvar.proofs.Laws.{section-cut, section-strings}
 use borrow.Author.Needs.{needs}
 use Rattle.lvar.proofs.section_lvar.Statement.{statement}
 use Rattle.lvar.proofs.section_lvar.Tie as tie

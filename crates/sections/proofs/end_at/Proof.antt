@@ -4,7 +4,7 @@ use mathlib.Core.Path.{_≡_, sym, ap, _∙_}
 use Rattle.format.specs.Bytes.{ok, refused}
 use Rattle.format.specs.File.{endSection}
 use lib.ListN.{drop}
-use Rattle.sections.specs.Answers.{sizeOf}
+use Rattle.marks.specs.Answers.{sizeOf}
 use Rattle.sections.specs.Sections.{endOutOf}
 use Rattle.sections.proofs.Laws.{part-is}
 use borrow.Author.Needs.{needs}

@@ -1,14 +1,14 @@
--- `sections::section_end` meets its contract.
+-- `marks::section_end` meets its contract.
 -- Assumes nothing.
 use mathlib.Core.Path.{sym, ap, _∙_}
 use borrow.Author.Tests.{eq-eqb, ne-eqb, lt-leb, le-leb}
 use Rattle.format.specs.Bytes.{u32At}
 use Rattle.format.specs.File.{endSection}
 use Rattle.binfmt.specs.Answers.{field32Of}
-use Rattle.lvar.proofs.Laws.{field-there, field-short}
+use Rattle.headers.proofs.Fields.{field-there, field-short}
 use borrow.Author.Needs.{needs}
-use Rattle.sections.proofs.section_end.Statement.{statement}
-use Rattle.sections.proofs.section_end.Tie as tie
+use Rattle.marks.proofs.section_end.Statement.{statement}
+use Rattle.marks.proofs.section_end.Tie as tie
 
 returns : tie.Need-returns
 unfolding endSection

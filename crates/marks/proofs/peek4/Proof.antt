@@ -1,9 +1,9 @@
--- `sections::peek4` meets its contract.
+-- `marks::peek4` meets its contract.
 -- Assumes nothing.
-use Rattle.sections.specs.Sections.{markOf}
+use Rattle.marks.specs.Marks.{markOf}
 use borrow.Author.Needs.{needs}
-use Rattle.sections.proofs.peek4.Statement.{statement}
-use Rattle.sections.proofs.peek4.Tie as tie
+use Rattle.marks.proofs.peek4.Statement.{statement}
+use Rattle.marks.proofs.peek4.Tie as tie
 
 returns : tie.Need-returns
 unfolding markOf

@@ -2,8 +2,8 @@
 -- Assumes nothing.
 use Prim.Native.Nat.{ℕ}
 use Rattle.format.specs.Bytes.{Answer, ok, refused}
-use Rattle.sections.specs.declared.Size.{Size}
-use Rattle.sections.specs.declared.Size.the-variants as size
+use Rattle.marks.specs.declared.Size.{Size}
+use Rattle.marks.specs.declared.Size.the-variants as size
 
 -- a section's size, or its refusal's number
 abbrev pub sizeOf : Size → Answer ℕ

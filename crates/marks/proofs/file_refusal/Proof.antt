@@ -1,11 +1,11 @@
--- `file::file_refusal` meets its contract.
+-- `marks::file_refusal` meets its contract.
 -- Assumes nothing.
 use borrow.Author.Tests.{lt-ltb, le-ltb, eq-eqb, ne-eqb}
-use Rattle.file.specs.File.{fileRefusal}
-use Rattle.file.proofs.Laws.{file-short, file-there}
+use Rattle.marks.specs.Marks.{fileRefusal}
+use Rattle.marks.proofs.Laws.{file-short, file-there}
 use borrow.Author.Needs.{needs}
-use Rattle.file.proofs.file_refusal.Statement.{statement}
-use Rattle.file.proofs.file_refusal.Tie as tie
+use Rattle.marks.proofs.file_refusal.Statement.{statement}
+use Rattle.marks.proofs.file_refusal.Tie as tie
 
 returns : tie.Need-returns
 unfolding fileRefusal

@@ -1,9 +1,9 @@
--- `sections::is_mark` meets its contract.
+-- `marks::is_mark` meets its contract.
 -- Assumes nothing.
 use borrow.Author.Tests.{eq-eqb, ne-eqb}
 use borrow.Author.Needs.{needs}
-use Rattle.sections.proofs.is_mark.Statement.{statement}
-use Rattle.sections.proofs.is_mark.Tie as tie
+use Rattle.marks.proofs.is_mark.Statement.{statement}
+use Rattle.marks.proofs.is_mark.Tie as tie
 
 returns : tie.Need-returns
 returns c = rw (ne-eqb _ _ (c .if1 .taken))

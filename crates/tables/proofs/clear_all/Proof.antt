@@ -1,9 +1,8 @@
--- `rite::clear_all` meets its contract.
+-- `tables::clear_all` meets its contract.
 -- Assumes nothing.
-
 use borrow.Author.Needs.{needs}
-use Rattle.rite.proofs.clear_all.Statement.{statement}
-use Rattle.rite.proofs.clear_all.Tie as tie
+use Rattle.tables.proofs.clear_all.Statement.{statement}
+use Rattle.tables.proofs.clear_all.Tie as tie
 
 returns : tie.Need-returns
 returns c = record { records = search needs; handlers = search needs; pool = search needs; symbols = search needs; strings = search needs; names = search needs; fileNames = search needs; files = search needs; lines = search needs }

@@ -1,0 +1,103 @@
+// What is tested of a file without tables: its size and header, the mark of a section, the size of END.
+use binfmt::Field32;
+use headers::RiteBinaryHeader;
+use headers::section_size;
+ghost use mathlib.Core.Path.{_≡_};
+ghost use Prim.Native.Nat.{_+_, _≤_};
+ghost use lib.ListN.{length};
+ghost use Rattle.format.specs.File.{endSection};
+ghost use Rattle.marks.specs.Answers.{sizeOf};
+ghost use Rattle.marks.specs.Marks.{matches, markOf, fileRefusal};
+
+// A section's size, or a refusal's number.
+pub enum Size {
+    Stated(u32),
+    Refused(u8),
+}
+
+// The mark of a section.
+pub enum Mark {
+    Irep,
+    Lvar,
+    Dbg,
+    End,
+    Unknown,
+}
+
+// Whether the four bytes at a place are these.
+fn is_mark(f: &[u8], at: usize, a: u8, b: u8, c: u8, d: u8) -> bool
+    requires { ⌜ at + 4 ≤ length (now f) ⌝ }
+    ensures { λ r. ⌜ r ≡ matches (now (f .entry)) at a b c d ⌝ }
+{
+    if f[at] != a {
+        return false;
+    }
+    if f[at + 1] != b {
+        return false;
+    }
+    if f[at + 2] != c {
+        return false;
+    }
+    f[at + 3] == d
+}
+
+// The mark at a place.
+pub fn peek4(f: &[u8], at: usize) -> Mark
+    requires { ⌜ at + 4 ≤ length (now f) ⌝ }
+    ensures { λ r. ⌜ r ≡ markOf (now (f .entry)) at ⌝ }
+{
+    if is_mark(f, at, b'I', b'R', b'E', b'P') {
+        return Mark::Irep;
+    }
+    if is_mark(f, at, b'L', b'V', b'A', b'R') {
+        return Mark::Lvar;
+    }
+    if is_mark(f, at, b'D', b'B', b'G', 0) {
+        return Mark::Dbg;
+    }
+    if is_mark(f, at, b'E', b'N', b'D', 0) {
+        return Mark::End;
+    }
+    Mark::Unknown
+}
+
+// The size of a section of which nothing else is looked at.
+pub fn section_end(f: &[u8]) -> Size
+    ensures { λ r. ⌜ sizeOf r ≡ endSection (now (f .entry)) ⌝ }
+{
+    let Field32::Value(size) = section_size(f) else {
+        return Size::Refused(7);
+    };
+    if size == 0 {
+        return Size::Refused(8);
+    }
+    if f.len() < (size as usize) {
+        return Size::Refused(7);
+    }
+    Size::Stated(size)
+}
+
+// The refusal of a file by its size and its header, 0 for none.
+pub fn file_refusal(f: &[u8]) -> u8
+    ensures { λ r. ⌜ r ≡ fileRefusal (now (f .entry)) ⌝ }
+{
+    if 65536 < f.len() {
+        return 1;
+    }
+    let h = RiteBinaryHeader::from_bytes(f);
+    if h.refusal != 0 {
+        return 2;
+    }
+    let header = h.header;
+    let major = header.major_version;
+    if major[0] != b'0' {
+        return 3;
+    }
+    if major[1] != b'4' {
+        return 3;
+    }
+    if f.len() < 32 {
+        return 4;
+    }
+    0
+}
