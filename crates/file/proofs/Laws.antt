@@ -1,4 +1,4 @@
--- The turns of the loop over sections.
+-- A file by its tests, and the turns of the loop over sections.
 -- Assumes nothing.
 use Prim.Native.Nat.{ℕ, zero, suc, _+_, _-_, _<_, _≤_}
 use mathlib.Core.Path.{_≡_, refl}
@@ -6,13 +6,27 @@ use mathlib.Core.Bool.{true, false}
 use mathlib.Core.List.{List}
 use native.Mathlib.Omega.{arith}
 use lib.ListN.{length}
+use borrow.Author.Tests.{eq-eqb, ne-eqb}
 use Rattle.format.specs.Bytes.{has}
 use Rattle.format.specs.Load.{Words}
+use Rattle.marks.specs.Marks.{fileRefusal}
 use Rattle.sections.specs.declared.Progress.{Progress}
 use Rattle.sections.specs.declared.Section.{Section}
 use Rattle.sections.specs.declared.Section.the-variants as section
+use Rattle.sections.specs.Sections.{begun}
+use Rattle.file.specs.declared.Loaded.{Loaded}
 use Rattle.file.specs.declared.Loaded.the-variants as loaded-is
-use Rattle.file.specs.File.{out, loaded, sectionOut, sectionsOut}
+use Rattle.file.specs.File.{out, loaded, sectionOut, sectionsOut, fileOut}
+
+-- a file that its tests refuse, and one whose sections are read
+module _ (f : List ℕ) (limit : ℕ) (t : Words) (k : ℕ) (e : k ≡ fileRefusal f) where
+  pub file-refused : ¬ (k ≡ 0) → loaded (loaded-is.Refused k) t ≡ fileOut f limit t
+  unfolding fileOut
+  file-refused n = rw (← e, ne-eqb k 0 n)
+
+  pub file-read : k ≡ 0 → (r : Loaded) (t′ : Words) → loaded r t′ ≡ sectionsOut f limit (length f) 20 t begun → loaded r t′ ≡ fileOut f limit t
+  unfolding fileOut
+  file-read z r t′ d = rw (← e, eq-eqb k 0 z) d
 
 -- the tables keep their lengths
 pub record Same (t t′ : Words) : Type 0 where

@@ -1,7 +1,6 @@
-// A file: its tests, then its sections in turn, into nine lent tables.
+// A file's sections in turn, into nine lent tables.
 use binfmt::rest;
 use marks::Mark;
-use marks::file_refusal;
 use marks::peek4;
 use sections::Progress;
 use sections::Section;
@@ -15,7 +14,7 @@ ghost use mathlib.Core.Path.{_≡_};
 ghost use Prim.Native.Nat.{_+_, _≤_};
 ghost use lib.ListN.{length};
 ghost use Rattle.sections.specs.Sections.{begun};
-ghost use Rattle.file.specs.File.{words, out, sectionOut, loaded, sectionsOut, fileOut};
+ghost use Rattle.file.specs.File.{words, out, sectionOut, loaded, sectionsOut};
 
 // What a load answers: the rows used of each table, or a refusal's number.
 pub enum Loaded {
@@ -52,7 +51,7 @@ fn read_section(
 }
 
 // The sections from the file's header on, until fewer than four bytes are left.
-fn read_sections(
+pub fn read_sections(
     f: &[u8],
     limit: u32,
     records: &mut [u32],
@@ -103,39 +102,4 @@ fn read_sections(
     }
     let u = p.used;
     Loaded::Rows(u)
-}
-
-// A file: its tests, then its sections.
-pub fn read_file(
-    f: &[u8],
-    limit: u32,
-    records: &mut [u32],
-    handlers: &mut [u32],
-    pool: &mut [u32],
-    symbols: &mut [u32],
-    strings: &mut [u32],
-    names: &mut [u32],
-    filenames: &mut [u32],
-    files: &mut [u32],
-    lines: &mut [u32],
-) -> Loaded
-    ensures { λ r. ⌜ loaded r (words (now (records .exit)) (now (handlers .exit)) (now (pool .exit)) (now (symbols .exit)) (now (strings .exit)) (now (names .exit)) (now (filenames .exit)) (now (files .exit)) (now (lines .exit))) ≡ fileOut (now (f .entry)) limit (words (now (records .entry)) (now (handlers .entry)) (now (pool .entry)) (now (symbols .entry)) (now (strings .entry)) (now (names .entry)) (now (filenames .entry)) (now (files .entry)) (now (lines .entry))) ⌝ }
-{
-    let refusal = file_refusal(f);
-    if refusal != 0 {
-        return Loaded::Refused(refusal);
-    }
-    read_sections(
-        f,
-        limit,
-        records,
-        handlers,
-        pool,
-        symbols,
-        strings,
-        names,
-        filenames,
-        files,
-        lines,
-    )
 }

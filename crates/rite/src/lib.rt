@@ -1,5 +1,6 @@
-// Loading a file into nine lent tables that are cleared first, and cleared again after a refusal.
-use file::read_file;
+// Loading a file into nine lent tables that are cleared first, and cleared again after the refusal of a section.
+use file::read_sections;
+use marks::file_refusal;
 use tables::clear_all;
 ghost use mathlib.Core.Path.{_≡_};
 ghost use Rattle.format.specs.Load.{load};
@@ -33,7 +34,11 @@ pub fn load(
         files,
         lines,
     );
-    match read_file(
+    let refusal = file_refusal(f);
+    if refusal != 0 {
+        return Loaded::Refused(refusal);
+    }
+    match read_sections(
         f,
         1024,
         records,
