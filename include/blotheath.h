@@ -1,5 +1,48 @@
-/* The C boundary of Blotheath (libblotheath.a). Every call is total: it ends on every input, reads and writes nothing outside the slices that it
-   is lent, and answers a refusal by paper 01's number. A slice is a pointer and the number of its elements. */
+/* The C boundary of Blotheath (libblotheath.a): loads, examines and follows compiled Ruby patterns, .mrb files of mruby 4.0 (RITE0400).
+
+   Every call is total: it ends on every input, reads and writes nothing outside the slices that it is lent, and refuses by a number of the list
+   below. That is proved of the call's code; what a caller owes stands here.
+
+   Slices. A slice is a pointer and the number of its elements, in memory that is there for the whole call and aligned for its type. No two slices
+   of one call overlap, those that are only read, as the file and the choices, no less than tables, frames and rows. A pointer may be NULL where
+   its number is 0: that is a file without bytes, a table without rows, no choices. What is lent to be filled may hold anything before the call.
+
+   Threads. Calls share nothing and keep nothing: any number of them may go on at once, as long as no slice that one of them writes is lent to
+   another. Slices that are only read may be shared.
+
+   Stack. No theorem bounds it. blotheath_load and blotheath_load_records need at most 448 KiB of stack, blotheath_examine and blotheath_follow
+   at most 512 KiB, every other call 4 KiB: a chain of 1,024 records is the deepest, and the host's tests run it in threads of that stack. Other
+   files need 8 KiB for a load, and 80 KiB for an examination or a run.
+
+   Refusals. 0 is none, and no refusal is 0.
+    1  the file has more than 65,536 bytes
+    2  the file has under 20 bytes, those of its header
+    3  the file's major version is not 04
+    4  the file has under 32 bytes, those of its header and a section
+    5  a section begins with a mark that is none of IREP, LVAR, DBG and END
+    6  a second IREP, LVAR or DBG, or LVAR or DBG before IREP
+    7  a read or a section size passes the file's end, or in DBG the section's
+    8  an IREP, LVAR or END section or a record has size 0
+    9  a text has a zero byte inside, or none where one must end it
+   10  a constant is of an unknown kind
+   11  LVAR: a record without locals (nlocals 0), or a name that is neither 65535 nor below the number of strings
+   12  DBG: a file's start not above that of the file before, a name or a kind out of range, a packed number of more than five bytes, or a debug
+       record's size that is not that of its bytes
+   13  a line's position is above 4294967295
+   14  a row that is needed has no place in its lent table, or is behind the 1,024th record; in blotheath_follow also fewer rows of frames than
+       the file has records
+   15  the records are not one whole tree
+   16  in a record, an opcode above 118, a prefix opcode (115 to 117), a cut instruction, or no instruction at all
+   17  an operand is not below the registers, constants, symbols or children that its record has
+   18  a jump, or the next step, goes to where no instruction begins
+   19  a handler's target is where no instruction begins
+   20  the positions of a record's line map fall
+   21  a choice's kind is above 4, or its body is cut
+   22  a lookup's record or index has no row, its row points outside the file or its table, or a constant's kind or length is unknown
+   23  fetch: the opcode is above 118
+   24  fetch: too few bytes
+   A load refuses by 1 to 14, an examination by 1 to 20, follow by 1 to 21, lookups by 22, fetch by 23 and 24. 1 to 4 are tested in this order; 5
+   to 14 are met where reading forward meets them; the others stand with their calls. */
 #ifndef BLOTHEATH_H
 #define BLOTHEATH_H
 
@@ -10,22 +53,7 @@
 extern "C" {
 #endif
 
-/* A load's answer. refusal: 0, or one of these numbers; then every count is 0.
-    1  the file has more than 65,536 bytes
-    2  it has under 20 bytes
-    3  its major version is not 04
-    4  it has under 32 bytes
-    5  an unknown section mark
-    6  a second IREP, LVAR or DBG, or LVAR or DBG before IREP
-    7  a read or a section size passes the file's end, or the section's in DBG
-    8  an IREP, LVAR or END section or a record has size 0
-    9  a string breaks its zero rule
-   10  an unknown pool kind
-   11  a visited record has nlocals 0, or a name index is neither 65535 nor below the number of strings
-   12  a debug start not above the one before, a name index or kind out of range, a packed number of more than five bytes, a wrong debug record size
-   13  a line's position above 4294967295
-   14  a row that is needed has no place in its lent table, or is behind the 1,024th record
-   The other fields are the rows used of each table. */
+/* A load's answer: the refusal's number, 1 to 14, and then every count is 0; or 0 and the rows used of each table. */
 typedef struct {
     uint32_t refusal;
     uint32_t records;
@@ -39,9 +67,9 @@ typedef struct {
     uint32_t lines;
 } BlotheathLoaded;
 
-/* Loads a file into nine lent tables, which must not overlap. Lengths are in words. What the tables hold before the call does not matter;
-   afterwards each holds its rows one after another, then zeros up to its end; after a refusal zeros throughout. Words behind the last whole row
-   (a length that is no multiple of the row's words) are no row, and are zero too.
+/* Loads a file into nine lent tables. Lengths are in words. What the tables hold before the call does not matter; afterwards each holds its rows
+   one after another, then zeros up to its end; after a refusal zeros throughout. Words behind the last whole row (a length that is no multiple
+   of the row's words) are no row, and are zero too.
 
    Words of a row. Places count bytes from the file's first, first rows count rows of their table, and are 0 where the number is 0.
    records, 19:  size, nlocals, nregs, rlen, clen, ilen, place of the instructions, then first row and number of its handlers, pool entries,
@@ -53,7 +81,22 @@ typedef struct {
    names, 1:     row of strings, or 65535 for unnamed
    filenames, 2: the same as symbols, of a source file's name
    files, 4:     start, row of filenames, first row and number of its lines
-   lines, 2:     position, line */
+   lines, 2:     position, line
+
+   How much to lend. A load clears all that it is lent, so lend by the file's length: over fitting tables it is six to eight times as fast as the
+   Rust that it was ported from, over nine tables of 64 KiB three times as slow on small files. For a file of n bytes:
+                 what a compiler writes    records that do not overlap
+   records       n / 32 + 1                n / 20, at most 1,024
+   handlers      n / 32 + 1                n / 13
+   pool          n / 12 + 1                n / 3
+   symbols       n / 12 + 1                n / 3
+   strings       n / 24 + 1                n / 2
+   names         n / 16 + 1                n / 2
+   filenames     n / 64 + 1                n / 2
+   files         n / 32 + 1                n / 11
+   lines         n / 12 + 1                n / 2
+   Try the first column, after 14 the second. Only a hostile file needs more: up to 1,024 records may read the same bytes as handlers, pool
+   entries and symbols of their own, so after 14 again lend more rows of those three and 1,024 records, or take 14 for the answer. */
 BlotheathLoaded blotheath_load(const uint8_t *file, size_t file_len,
                                uint32_t *records, size_t records_len,
                                uint32_t *handlers, size_t handlers_len,
@@ -89,9 +132,9 @@ typedef struct {
     uint32_t nlines;
 } BlotheathRecord;
 
-/* Loads as blotheath_load does, with the same answer, refusals and tables, and then fills lent rows, which must not overlap the tables: row i is
-   what the words of record i say, and zeros past the last record, so after a refusal every row is zeros. The length is in rows. Fewer rows than
-   records hold the first ones, and that is no refusal. */
+/* Loads as blotheath_load does, with the same answer, refusals and tables, and then fills lent rows: row i is what the words of record i say, and
+   zeros past the last record, so after a refusal every row is zeros. The length is in rows. Fewer rows than records hold the first ones, and that
+   is no refusal. */
 BlotheathLoaded blotheath_load_records(const uint8_t *file, size_t file_len,
                                        uint32_t *records, size_t records_len,
                                        uint32_t *handlers, size_t handlers_len,
@@ -104,14 +147,8 @@ BlotheathLoaded blotheath_load_records(const uint8_t *file, size_t file_len,
                                        uint32_t *lines, size_t lines_len,
                                        BlotheathRecord *rows, size_t rows_len);
 
-/* Examines a file: loads it as above, then tests it. Beside a load's refusals:
-   15  the tree of records is not whole
-   16  in a record, an opcode above 118, a prefix opcode, a cut instruction, or no instruction at all
-   17  an operand that is not below the registers, constants, symbols or children that its record has
-   18  a jump, or the next step, to where no instruction begins
-   19  a handler's target where no instruction begins
-   20  a line map whose positions fall
-   15 is tested first, then record by record 16, 17 and 18 at each instruction in turn, 19, 20. The answer is that of a load. */
+/* Examines a file: loads it as above, then tests it: 15 first, then record by record 16, 17 and 18 at each instruction in turn, 19, 20. The answer
+   and the tables are those of a load; after a refusal every table is zero throughout. */
 BlotheathLoaded blotheath_examine(const uint8_t *file, size_t file_len,
                                   uint32_t *records, size_t records_len,
                                   uint32_t *handlers, size_t handlers_len,
@@ -123,9 +160,8 @@ BlotheathLoaded blotheath_examine(const uint8_t *file, size_t file_len,
                                   uint32_t *files, size_t files_len,
                                   uint32_t *lines, size_t lines_len);
 
-/* Where a run stands. refusal: 0, or a number of an examination, 14 also where the frame table has fewer rows than the file has records, or
-   21 where the choices are none. finished: 1 where the run is finished, and then all else is 0. Else the top frame's record and offset, its
-   line where found is 1, and the number of frames. */
+/* Where a run stands. refusal: 0, or a number of 1 to 21. finished: 1 where the run is finished, and then all else is 0. Else the top frame's
+   record and offset, its line where found is 1, and the number of frames. */
 typedef struct {
     uint32_t refusal;
     uint32_t finished;
@@ -136,9 +172,10 @@ typedef struct {
     uint32_t frames;
 } BlotheathFollowed;
 
-/* Follows the run of a file along choices: loads and examines it, then runs from the first record's start. A choice is a byte: 0 go on, 1 jump,
-   2 enter a child, 3 caught by handler h (two more bytes, high byte first), 4 leave; one that is not open is go on. The frame table has rows of
-   two words, record and offset: the frames, lowest first, then zeros. After a refusal every table is zero throughout. */
+/* Follows the run of a file along choices: loads it, tests that the frame table has as many rows as the file has records (14), examines it, reads
+   all choices (21), then runs from the first record's start. A choice is a byte: 0 go on, 1 jump, 2 enter a child, 3 caught by handler h (two
+   more bytes, high byte first), 4 leave; one that is not open is go on. The frame table has rows of two words, record and offset: the frames,
+   lowest first, then zeros. After a refusal every table, frames too, is zero throughout. */
 BlotheathFollowed blotheath_follow(const uint8_t *file, size_t file_len,
                                    uint32_t *records, size_t records_len,
                                    uint32_t *handlers, size_t handlers_len,
@@ -152,8 +189,7 @@ BlotheathFollowed blotheath_follow(const uint8_t *file, size_t file_len,
                                    uint32_t *frames, size_t frames_len,
                                    const uint8_t *choices, size_t choices_len);
 
-/* Lookups read a file and tables of any contents, and write nothing. refusal: 0, or 22 where the record or index has no row (a record row of
-   size 0 is none), a row points outside the file or its table, or a constant's kind or length is unknown; then all else is 0. */
+/* Lookups read a file and tables of any contents, and write nothing. refusal: 0, or 22, and then all else is 0. A record row of size 0 is none. */
 
 typedef struct {
     uint32_t refusal;
@@ -228,8 +264,8 @@ typedef struct {
 BlotheathLookedLine blotheath_line(const uint32_t *records, size_t records_len, const uint32_t *lines, size_t lines_len,
                                    uint32_t rec, uint32_t offset);
 
-/* An instruction. refusal: 0, 23 (an opcode above 118) or 24 (too few bytes). kind: 0 Z, 1 B, 2 BB, 3 S, 4 BBB, 5 BS, 6 W, 7 BSS. Operands that
-   the kind lacks are 0; so is all else after a refusal. */
+/* An instruction. refusal: 0, 23 or 24: 24 on no bytes, then 23, then 24. kind: 0 Z, 1 B, 2 BB, 3 S, 4 BBB, 5 BS, 6 W, 7 BSS. Operands that the
+   kind lacks are 0; so is all else after a refusal. */
 typedef struct {
     uint32_t refusal;
     uint32_t kind;

@@ -33,3 +33,9 @@ pub use tree::{Node, Tree};
 
 /// The longest file, in bytes.
 pub const FILE_LIMIT: usize = 65_536;
+
+/// The stack, in bytes, that a load needs at most.
+pub const LOAD_STACK: usize = 448 << 10;
+
+/// The stack, in bytes, that any call of this library needs at most: that of an examination or a run.
+pub const STACK: usize = 512 << 10;

@@ -67,7 +67,7 @@ fn overlaps(length: usize) -> Vec<usize> {
 }
 
 /// Rows that suffice for what a compiler writes: few of the bytes that a row stands for are its fewest.
-fn usual(length: usize) -> [usize; 9] {
+pub fn usual(length: usize) -> [usize; 9] {
     [32, 32, 12, 12, 24, 16, 64, 32, 12].map(|bytes| length / bytes + 1)
 }
 

@@ -52,6 +52,9 @@ const LAST_SIZE: u32 = 0x1100_0000;
 
 const RECORDS: usize = 1_024;
 
+/// The opcode that makes a block of a child.
+const LAMBDA: u8 = 97;
+
 /// How many records share their code, and the bytes of it: fewer for the model, which is slow.
 ///
 /// The high byte of the length is also the opcode LOADNIL or TCLASS.
@@ -153,4 +156,53 @@ pub fn tree(wide: bool) -> Vec<u8> {
         content.extend(record(rlen, &[118], &[], &[]));
     }
     file(&[irep(&content)])
+}
+
+/// A chain of 1,024 records, each with a step that enters the next one; with names, with lines.
+pub fn chain(names: bool, lines: bool) -> Vec<u8> {
+    let mut records = Vec::new();
+    for number in 1..=RECORDS {
+        let is_last = number == RECORDS;
+        let code: &[u8] = if is_last {
+            &[118]
+        } else {
+            &[LAMBDA, 0, 0, 118]
+        };
+        let rlen = u16::from(!is_last);
+        // Four zeros are no constants and no symbols.
+        let size = 20 + code.len() as u32;
+        records.extend(head(size, 2, 1, rlen, code.len() as u32));
+        records.extend(code);
+        records.extend([0; 4]);
+    }
+    let mut sections = vec![irep(&records)];
+    if names {
+        sections.push(lvar(RECORDS));
+    }
+    if lines {
+        sections.push(dbg(RECORDS));
+    }
+    file(&sections)
+}
+
+/// One string, and a record's one local variable named by it, so many times.
+fn lvar(records: usize) -> Vec<u8> {
+    let mut content = 1u32.to_be_bytes().to_vec();
+    content.extend([0, 1, b'x']);
+    content.extend([0, 0].repeat(records));
+    section(b"LVAR", &content)
+}
+
+/// One file name, and so many debug records of one file whose packed map has two lines.
+fn dbg(records: usize) -> Vec<u8> {
+    let map = [0, 1, 3, 1];
+    let mut record = vec![0, 0, 0, 0, 0, 1];
+    // The file's start, its name, the bytes of its map, their kind.
+    record.extend([0, 0, 0, 0, 0, 0, 0, 0, 0, map.len() as u8, 2]);
+    record.extend(map);
+    let size = record.len() as u32;
+    record[..4].copy_from_slice(&size.to_be_bytes());
+    let mut content = vec![0, 1, 0, 1, b'x'];
+    content.extend(record.repeat(records));
+    section(b"DBG\0", &content)
 }

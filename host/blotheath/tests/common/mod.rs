@@ -59,7 +59,18 @@ pub fn run(words: &[&str]) -> Ran {
 pub fn run_in_64_mb(words: &[&str]) -> Ran {
     let command = env!("CARGO_BIN_EXE_blotheath");
     let own = fs::metadata(command).unwrap().len() / 1024;
-    let script = format!("ulimit -v {}; exec \"$0\" \"$@\"", 65_536 + own);
+    run_limited(&format!("ulimit -v {}", 65_536 + own), words)
+}
+
+/// Runs the command where the shell gives so many KiB of stack.
+pub fn run_in_stack(kib: u32, words: &[&str]) -> Ran {
+    run_limited(&format!("ulimit -s {kib}"), words)
+}
+
+/// Runs the command behind a line of shell that sets a limit.
+fn run_limited(limit: &str, words: &[&str]) -> Ran {
+    let command = env!("CARGO_BIN_EXE_blotheath");
+    let script = format!("{limit}; exec \"$0\" \"$@\"");
     let mut shell = Command::new("sh");
     finish(shell.args(["-c", &script, command]).args(words), b"")
 }

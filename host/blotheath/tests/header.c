@@ -1,0 +1,62 @@
+/* Calls the archive as include/blotheath.h says, with slices without elements at NULL. Ends with 0 where every answer is as said. */
+#include <stdio.h>
+#include "blotheath.h"
+
+#define NONE NULL, 0
+#define LENT(slice) slice, sizeof slice / sizeof *slice
+#define NO_TABLES NONE, NONE, NONE, NONE, NONE, NONE, NONE, NONE, NONE
+
+static int wrong = 0;
+
+static void hold(int good, const char *what) {
+    if (!good) {
+        printf("not so: %s\n", what);
+        wrong = 1;
+    }
+}
+
+/* A file of one record: LOADNIL 1, RETURN 1. */
+static const uint8_t file[64] = {
+    'R', 'I', 'T', 'E', '0', '4', '0', '0', 0, 0, 0, 64, 0, 0, 0, 0, 0, 0, 0, 0,
+    'I', 'R', 'E', 'P', 0, 0, 0, 36, 0, 0, 0, 0,
+    0, 0, 0, 24, 0, 1, 0, 2, 0, 0, 0, 0, 0, 0, 0, 4, 17, 1, 61, 1, 0, 0, 0, 0,
+    'E', 'N', 'D', 0, 0, 0, 0, 8,
+};
+
+int main(void) {
+    uint32_t records[19], frames[2];
+    BlotheathRecord row[1];
+
+    hold(blotheath_load(NONE, NO_TABLES).refusal == 2, "a file without bytes is refused by 2");
+    hold(blotheath_load(LENT(file), NO_TABLES).refusal == 14, "without tables a record's row has no place");
+    hold(blotheath_load_records(NONE, NO_TABLES, NONE).refusal == 2, "no rows are filled");
+    hold(blotheath_examine(NONE, NO_TABLES).refusal == 2, "the same examined");
+    hold(blotheath_follow(NONE, NO_TABLES, NONE, NONE).refusal == 2, "the same followed");
+
+    BlotheathLoaded loaded =
+        blotheath_load_records(LENT(file), LENT(records), NONE, NONE, NONE, NONE, NONE, NONE, NONE, NONE, LENT(row));
+    hold(loaded.refusal == 0 && loaded.records == 1, "only records need rows");
+    hold(row[0].size == 24 && row[0].ilen == 4 && row[0].nlines == 0, "the row is the record's");
+    BlotheathFollowed at = blotheath_follow(LENT(file), LENT(records), NONE, NONE, NONE, NONE, NONE, NONE, NONE, NONE,
+                                            LENT(frames), NONE);
+    hold(at.refusal == 0 && at.finished == 0 && at.frames == 1 && at.offset == 0, "without choices a run stands at its start");
+    hold(blotheath_examine(LENT(file), LENT(records), NONE, NONE, NONE, NONE, NONE, NONE, NONE, NONE).refusal == 0, "it passes");
+
+    BlotheathText code = blotheath_instructions(LENT(file), LENT(records), 0);
+    hold(code.refusal == 0 && code.place == 48 && code.length == 4, "the instructions are found");
+    hold(blotheath_instructions(NONE, NONE, 0).refusal == 22, "lookups without tables: instructions");
+    hold(blotheath_instructions(NONE, LENT(records), 0).refusal == 22, "lookups without a file");
+    hold(blotheath_handler(NONE, NONE, 0, 0).refusal == 22, "handler");
+    hold(blotheath_pool(NONE, NONE, NONE, 0, 0).refusal == 22, "pool");
+    hold(blotheath_symbol(NONE, NONE, NONE, 0, 0).refusal == 22, "symbol");
+    hold(blotheath_name(NONE, NONE, NONE, NONE, 0, 0).refusal == 22, "name");
+    hold(blotheath_debug_file(NONE, NONE, NONE, NONE, NONE, 0, 0).refusal == 22, "debug file");
+    hold(blotheath_line(NONE, NONE, 0, 0).refusal == 22, "line");
+    BlotheathLookedLine line = blotheath_line(LENT(records), NONE, 0, 0);
+    hold(line.refusal == 0 && line.found == 0, "a record without lines");
+
+    hold(blotheath_fetch(NONE).refusal == 24, "an instruction of no bytes");
+    hold(blotheath_fetch(file + code.place, code.length).a == 1, "an instruction");
+    hold(blotheath_line_at(NONE, 0).found == 0, "a map without entries");
+    return wrong;
+}

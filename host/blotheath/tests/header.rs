@@ -1,0 +1,117 @@
+//! include/blotheath.h: it compiles as C and as C++, its numbers are the host's, and what it says of slices without elements holds.
+
+mod common;
+
+use blotheath::tables::{rows, usual};
+use blotheath::{LOAD_STACK, Refusal, STACK};
+use common::Folder;
+use std::fs;
+use std::path::{Path, PathBuf};
+use std::process::Command;
+
+fn repository() -> PathBuf {
+    Path::new(env!("CARGO_MANIFEST_DIR")).join("../..")
+}
+
+fn header() -> String {
+    fs::read_to_string(repository().join("include/blotheath.h")).unwrap()
+}
+
+#[test]
+fn every_refusal_stands_in_the_header_once() {
+    let header = header();
+    for number in 1.. {
+        let told = header
+            .lines()
+            .filter(|line| line.starts_with(&format!("   {number:>2}  ")))
+            .count();
+        let known = Refusal(number).sentence() != "no such refusal";
+        assert_eq!(told, usize::from(known), "{number}");
+        if !known {
+            break;
+        }
+    }
+}
+
+#[test]
+fn the_rows_to_lend_are_those_that_the_host_lends() {
+    let header = header();
+    let (_, table) = header.split_once("How much to lend").unwrap();
+    let names = [
+        "records",
+        "handlers",
+        "pool",
+        "symbols",
+        "strings",
+        "names",
+        "filenames",
+        "files",
+        "lines",
+    ];
+    for (kind, name) in names.iter().enumerate() {
+        let row = table
+            .lines()
+            .find(|line| line.split_whitespace().next() == Some(name))
+            .unwrap();
+        let divisors: Vec<usize> = row
+            .split('/')
+            .skip(1)
+            .map(|part| part.split([' ', ',']).nth(1).unwrap().parse().unwrap())
+            .collect();
+        for length in [0, 1, 64, 4_096, 20_479, 65_536] {
+            assert_eq!(usual(length)[kind], length / divisors[0] + 1, "{name}");
+            let most = if kind == 0 { 1_024 } else { length };
+            assert_eq!(
+                rows(length, 1)[kind],
+                most.min(length / divisors[1]),
+                "{name}"
+            );
+        }
+    }
+}
+
+#[test]
+fn the_stack_is_that_of_the_header() {
+    let header = header();
+    for bytes in [LOAD_STACK, STACK] {
+        assert!(header.contains(&format!("at most {} KiB", bytes >> 10)));
+    }
+}
+
+/// The folder of the archive.
+fn archive() -> PathBuf {
+    match std::env::var_os("BLOTHEATH_ARCHIVE") {
+        Some(folder) => PathBuf::from(folder),
+        None => repository().join("target/staticlib"),
+    }
+}
+
+/// Compiles and runs tests/header.c; the program ends with 0 where all that it tries holds.
+#[test]
+#[cfg_attr(feature = "model", ignore = "the archive is not linked")]
+fn c_and_cpp_call_the_archive() {
+    let folder = Folder::new("header");
+    let source = Path::new(env!("CARGO_MANIFEST_DIR")).join("tests/header.c");
+    for (compiler, language) in [("cc", "c"), ("c++", "c++")] {
+        let program = folder.path().join(compiler);
+        let compiled = Command::new(compiler)
+            .args(["-Wall", "-Wextra", "-Werror", "-pedantic", "-x", language])
+            .arg(&source)
+            .args(["-x", "none", "-I"])
+            .arg(repository().join("include"))
+            .arg(archive().join("libblotheath.a"))
+            .arg("-o")
+            .arg(&program)
+            .status();
+        match compiled {
+            Ok(status) => assert!(status.success(), "{compiler}"),
+            Err(error) => {
+                println!("{compiler} was not tried: {error}");
+                continue;
+            }
+        }
+        let ran = Command::new(&program).output().unwrap();
+        let told = String::from_utf8_lossy(&ran.stdout);
+        assert!(ran.status.success(), "{compiler}: {told}");
+    }
+}
