@@ -16,7 +16,7 @@ use Rattle.format.specs.Irep.{Rec, irepSection}
 use Rattle.format.specs.Debug.{File}
 use Rattle.format.specs.File.{Content, isMark, once, afterIrep, sectionAt, sections, nothing, majorIs04, fileReading}
 use Rattle.format.specs.Load.{joined, recordsOf, stringsOf, namesOf, fileNamesOf, filesOf, fileRows, Tables, tablesOf}
-use Rattle.bounds.proofs.Covers.{either, anything, answered}
+use Rattle.format.proofs.Answers.{either, anything, answered}
 use Rattle.bounds.proofs.Sections.{filesAndLines, lvarSection-rows, debugSection-rows}
 use Rattle.bounds.proofs.Sums.{Sums, no-sums, irepSection-sums}
 
@@ -110,7 +110,7 @@ module _ (f : List ℕ) (bytes : (i : ℕ) → getD f i 0 < 256) (n : ℕ) (shor
       (λ _.
       let s = sectionAt f c at in
       let y = sectionAt-counts c at x in
-      answered _ (Keeps n) (s .end) _ _ (anything (s .end)) (λ size _. sections-counts left (s .it) (at + size) y) (λ _. y))
+      answered _ _ (Keeps n) (s .end) _ _ (anything (s .end)) (λ size _. sections-counts left (s .it) (at + size) y) (λ _ _. y))
       (λ _. x)
 
 -- of a longer file nothing is read

@@ -3,45 +3,15 @@
 use Prim.Native.Nat.{ℕ, zero, suc, _+_, _≤_}
 use native.Mathlib.Omega.{arith}
 use mathlib.Core.Path.{_≡_, refl}
-use mathlib.Core.Bool.{Bool, true, false, cond}
+use mathlib.Core.Bool.{Bool}
 use mathlib.Core.List.{List, [], _∷_, _++_}
 use lib.ListN.{length, length-append}
-use Rattle.format.specs.Bytes.{Answer, ok, refused, bind, onAnswer, Step}
+use Rattle.format.specs.Bytes.{Answer, ok, refused, Step}
 use Rattle.format.specs.Reading.{Read, Part, andThen, more, inTurn}
 use Rattle.format.specs.Irep.{Rec}
 use Rattle.format.specs.Walk.{walk}
 use Rattle.format.specs.Load.{joined}
-
--- what holds either way of a test holds of its outcome
-pub either : {A : Type 0} (P : A → Type 0) (b : Bool) (x y : A) → (b ≡ true → P x) → (b ≡ false → P y) → P (cond b x y)
-either P true x y h g = h refl
-either P false x y h g = g refl
-
--- what holds of the value that was answered, if one was
-abbrev pub Answers : {A : Type 0} → (A → Type 0) → Answer A → Type 0
-Answers P (ok a) = P a
-Answers P (refused e) = Unit {0}
-
--- nothing is said of it
-pub anything : {A : Type 0} (x : Answer A) → Answers (λ _. Unit {0}) x
-anything (ok a) = tt
-anything (refused e) = tt
-
--- what holds of all that may be made of an answer holds of what is made of it
-pub answered : {A B : Type 0} (Q : A → Type 0) (P : B → Type 0) (x : Answer A) (k : A → B) (r : ℕ → B)
-    → Answers Q x → ((a : A) → Q a → P (k a)) → ((e : ℕ) → P (r e)) → P (onAnswer x k r)
-answered Q P (ok a) k r q h g = h a q
-answered Q P (refused e) k r q h g = g e
-
-module _ {A : Type 0} (P : A → Type 0) where
-  -- a test that refuses
-  pub tested : (b : Bool) (x : Answer A) (e : ℕ) → (b ≡ true → Answers P x) → Answers P (cond b x (refused e))
-  tested b x e h = either (Answers P) b x (refused e) h (λ _. tt)
-
-  -- an answer made of another's value
-  pub chained : {B : Type 0} (Q : B → Type 0) (x : Answer B) (k : B → Answer A) → Answers Q x → ((b : B) → Q b → Answers P (k b)) → Answers P (bind x k)
-  chained Q (ok b) k q h = h b q
-  chained Q (refused e) k q h = tt
+use Rattle.format.proofs.Answers.{either, Answers}
 
 -- n rows from `at` on, with `next` behind them and inside the limit
 pub record Covers (limit at n next : ℕ) : Type 0 where

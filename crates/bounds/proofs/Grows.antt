@@ -3,20 +3,20 @@
 use Prim.Native.Nat.{ℕ, zero, suc, _+_, _≤_}
 use native.Mathlib.Nat.{le-refl, le-trans}
 use native.Mathlib.Omega.{arith}
-use mathlib.Core.Path.{_≡_, refl, ap}
+use mathlib.Core.Path.{_≡_, refl}
 use mathlib.Core.Bool.{Bool, true, false, cond}
-use mathlib.Core.List.{List, [], _∷_}
+use mathlib.Core.List.{List, []}
 use mathlib.Core.Option.{Option, none, some}
 use lib.ListN.{length, drop}
 use Rattle.format.specs.Bytes.{Answer, ok, refused, onAnswer, has}
 use Rattle.format.specs.Headers as mark
 use Rattle.format.specs.Reading.{Part, part}
-use Rattle.format.specs.Rows.{NameRow}
 use Rattle.format.specs.Irep.{Rec, irepSection}
 use Rattle.format.specs.Lvar.{Lvar, lvarSection}
-use Rattle.format.specs.Debug.{File, Debug, debugSection}
+use Rattle.format.specs.Debug.{Debug, debugSection}
 use Rattle.format.specs.File.{Content, content, nothing, isMark, once, afterIrep, endSection, sectionAt, sections}
-use Rattle.format.specs.Load.{Before, start, recordRows, namesOf, filesOf, tablesOf}
+use Rattle.format.specs.Load.{start, namesOf, filesOf, tablesOf}
+use Rattle.format.proofs.Places.{rows-length}
 
 -- LVAR and DBG come only behind IREP
 abbrev pub Ordered : Option (List Rec) → Option Lvar → Option Debug → Type 0
@@ -25,11 +25,6 @@ Ordered none none none = Unit {0}
 Ordered none none (some d) = ⊥
 Ordered none (some l) none = ⊥
 Ordered none (some l) (some d) = ⊥
-
--- a row for each record, whatever the walks read
-pub length-rows : (b : Before) (rs : List Rec) (nss : List (List NameRow)) (fss : List (List File)) → length (recordRows b rs nss fss) ≡ length rs
-length-rows b [] nss fss = refl
-length-rows b (r ∷ rs) nss fss = ap suc (length-rows _ rs _ _)
 
 -- no table has fewer rows
 pub record Less (c c′ : Content) : Type 0 where
@@ -66,14 +61,14 @@ from-nothing c = record { records = omega arith; handlers = omega arith; pool = 
 
 with-lvar : (rs : List Rec) (l : Lvar) (d : Option Debug) → Less (content (some rs) none d) (content (some rs) (some l) d)
 with-lvar rs l d =
-    let e = length-rows start rs [] (filesOf (content (some rs) none d)) in
-    let e′ = length-rows start rs (l .names) (filesOf (content (some rs) none d)) in
+    let e = rows-length rs start [] (filesOf (content (some rs) none d)) in
+    let e′ = rows-length rs start (l .names) (filesOf (content (some rs) none d)) in
     record { records = omega arith; handlers = le-refl _; pool = le-refl _; symbols = le-refl _; strings = omega arith; names = omega arith; fileNames = le-refl _; files = le-refl _; lines = le-refl _ }
 
 with-dbg : (rs : List Rec) (l : Option Lvar) (d : Debug) → Less (content (some rs) l none) (content (some rs) l (some d))
 with-dbg rs l d =
-    let e = length-rows start rs (namesOf (content (some rs) l none)) [] in
-    let e′ = length-rows start rs (namesOf (content (some rs) l none)) (d .files) in
+    let e = rows-length rs start (namesOf (content (some rs) l none)) [] in
+    let e′ = rows-length rs start (namesOf (content (some rs) l none)) (d .files) in
     record { records = omega arith; handlers = le-refl _; pool = le-refl _; symbols = le-refl _; strings = le-refl _; names = le-refl _; fileNames = omega arith; files = omega arith; lines = omega arith }
 
 -- what a section does to the content: it stays in order, and loses no row

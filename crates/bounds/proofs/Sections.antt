@@ -19,7 +19,8 @@ use Rattle.format.specs.Lvar.{plainText, nameEntry, recordNames, Lvar, lvarSect
 use Rattle.format.specs.Packed.{keeps}
 use Rattle.format.specs.Debug.{fileHead, mapEntry, after, goesOn, mapLines, fileLines, File, filesFrom, debugRecord, Debug, debugContent, debugSection}
 use Rattle.format.specs.Load.{joined, gathered, mapOfFiles}
-use Rattle.bounds.proofs.Covers.{either, answered, Within, Reads, Takes, Additive, length-additive, none-within, cut-within, more-within, andThen-within, inTurn-within, walk-within}
+use Rattle.format.proofs.Answers.{either, answered}
+use Rattle.bounds.proofs.Covers.{Within, Reads, Takes, Additive, length-additive, none-within, cut-within, more-within, andThen-within, inTurn-within, walk-within}
 use Rattle.bounds.proofs.Parsers.{plainText-moves, nameEntry-moves, mapEntry-moves, fileHead-moves}
 
 -- lists gathered from two lists
@@ -52,20 +53,20 @@ module _ (s : List ℕ) where
   mapLines-within kind end zero e last at h = none-within (length s) at h
   mapLines-within kind end (suc n) e last at h =
       either (Reads (length s) length at) (goesOn kind end at) _ _
-      (λ _. answered _ (Reads (length s) length at) (mapEntry s kind e at) _ _ (mapEntry-moves s kind e at)
+      (λ _. answered _ _ (Reads (length s) length at) (mapEntry s kind e at) _ _ (mapEntry-moves s kind e at)
       (λ x c.
       let d = mapLines-within kind end n (after kind (x .it)) (some (x .it .line)) (x .next) (c .high) in
       either (Reads (length s) length at) (keeps last (x .it .line)) _ _
       (λ _. record { low = omega arith; high = d .high })
       (λ _. record { low = omega arith; high = d .high }))
-      (λ _. cut-within (length s) at h))
+      (λ _ _. cut-within (length s) at h))
       (λ _. none-within (length s) at h)
 
   pub filesFrom-within : (names n : ℕ) (last : Option ℕ) (at : ℕ) → at ≤ length s → Reads (length s) filesAndLines at (filesFrom s names n last at)
   unfolding filesFrom
   filesFrom-within names zero last at h = none-within (length s) at h
   filesFrom-within names (suc n) last at h =
-      answered _ (Reads (length s) filesAndLines at) (fileHead s names last at) _ _ (fileHead-moves s names last at)
+      answered _ _ (Reads (length s) filesAndLines at) (fileHead s names last at) _ _ (fileHead-moves s names last at)
       (λ x c.
       let l = fileLines s x in
       let k = filesFrom s names n (some (x .start)) in
@@ -73,7 +74,7 @@ module _ (s : List ℕ) where
       let t = andThen-within (length s) filesAndLines refl at (1 + length (l .rows)) (l .end) k
       (more-within (length s) at 1 (length (l .rows)) (x .next) _ c d) (filesFrom-within names n (some (x .start))) in
       record { low = omega (arith, length-append (l .rows) (mapOfFiles (andThen (l .end) k .rows))); high = t .high })
-      (λ _. cut-within (length s) at h)
+      (λ _ _. cut-within (length s) at h)
 
   -- a visited record's files, and its names
   pub debugRecord-within : (names : ℕ) (r : Rec) (at : ℕ) → at ≤ length s → Takes (length s) filesAndLines at (debugRecord s names r at)

@@ -9,7 +9,8 @@ use Rattle.format.specs.Bytes.{Answer, ok, refused, Step, has, u16At, u32At}
 use Rattle.format.specs.Reading.{Read, Part, andThen, inTurn}
 use Rattle.format.specs.Irep.{handler, text, poolEntry, counted, headAt, Body, body, Rec, bodyAt, recordAt, recordsFrom, irepSection}
 use Rattle.format.specs.Load.{gathered}
-use Rattle.bounds.proofs.Covers.{either, inTurn-count}
+use Rattle.format.proofs.Answers.{either}
+use Rattle.bounds.proofs.Covers.{inTurn-count}
 
 -- what holds of no rows and of those that follow holds wherever reading ended
 andThen-rows : {R : Type 0} (P : List R → Type 0) (e : Answer ℕ) (k : ℕ → Read R) → P [] → ((at : ℕ) → P (k at .rows)) → P (andThen e k .rows)

@@ -15,7 +15,7 @@ use Rattle.format.specs.Pattern.{patternOf}
 use Rattle.format.specs.Exam.{examinePattern, passing, examining}
 use Rattle.format.proofs.Table.{both}
 use Rattle.format.proofs.Places.{rows-length}
-use Rattle.layout.proofs.Ends.{ok-refused}
+use Rattle.format.proofs.Answers.{ok-refused}
 use Rattle.layout.proofs.Inside.{loading-reading}
 use Rattle.exam.specs.View.{patternAt, Fits}
 use Rattle.sections.specs.declared.Used.{Used}

@@ -15,7 +15,7 @@ use Rattle.format.specs.Pattern.{patternOf}
 use Rattle.format.specs.Exam.{examinePattern, passing}
 use Rattle.format.specs.Run as format
 use Rattle.format.specs.Run.{Choice, Standing, standing, run, choices, following, follow}
-use Rattle.layout.proofs.Ends.{ok-refused}
+use Rattle.format.proofs.Answers.{ok-refused}
 use Rattle.exam.specs.View.{patternAt, Ready}
 use Rattle.sections.specs.declared.Used.{Used}
 use Rattle.file.specs.declared.Loaded.{Loaded}

@@ -42,7 +42,7 @@ module _ {R : Type 0} (words : R → List ℕ) (w : ℕ) (wide : (r : R) → len
   flat-append [] ys = refl
   flat-append (a ∷ xs) ys = rw (flat-append xs ys, append-assoc)
 
-  flat-length : (rs : List R) → length (flat words rs) ≡ length rs * w
+  pub flat-length : (rs : List R) → length (flat words rs) ≡ length rs * w
   flat-length [] = sym (zero-mul w)
   flat-length (r ∷ rs) = rw (length-append, wide r, flat-length rs, suc-mul) (omega arith)
 
@@ -96,6 +96,7 @@ rows-split (q ∷ qs) rs b nss fss =
     rw (drop-suc (length qs) nss, drop-suc (length qs) fss)
     (ap (λ l. recordRow b q (getD nss 0 []) (getD fss 0 []) ∷ l) (rows-split qs rs (past b q (getD nss 0 []) (getD fss 0 [])) (drop 1 nss) (drop 1 fss)))
 
+-- a row for each record, whatever the walks read
 pub rows-length : (rs : List Rec) (b : Before) (nss : List (List NameRow)) (fss : List (List File)) → length (recordRows b rs nss fss) ≡ length rs
 rows-length [] b nss fss = refl
 rows-length (r ∷ rs) b nss fss = ap suc (rows-length rs (past b r (getD nss 0 []) (getD fss 0 [])) (drop 1 nss) (drop 1 fss))

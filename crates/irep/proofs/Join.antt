@@ -4,7 +4,7 @@
 use Prim.Native.Nat.{ℕ, zero, suc, _+_, _≤_}
 use native.Mathlib.Nat.{add-sub-cancel-left}
 use native.Mathlib.Omega.{arith}
-use mathlib.Core.Path.{_≡_, refl, ap}
+use mathlib.Core.Path.{_≡_, refl}
 use mathlib.Core.Bool.{Bool, true, false, cond}
 use mathlib.Core.List.{List, [], _∷_, _++_, append-assoc, append-nil}
 use lib.Dec.{leb, eqb}
@@ -12,9 +12,8 @@ use lib.ListN.{length, length-append}
 use borrow.Author.Tests.{leb-true, leb-false}
 use Rattle.format.specs.Bytes.{ok, refused, bind, has, u32At}
 use Rattle.format.specs.Reading.{Read, reading, Part, part, andThen, inTurn}
-use Rattle.format.specs.Rows.{RecordRow, NameRow, HandlerRow, PoolRow, TextRow, recordWords, handlerWords, poolWords, textWords, tableOf}
+use Rattle.format.specs.Rows.{RecordRow, HandlerRow, PoolRow, TextRow, recordWords, handlerWords, poolWords, textWords, tableOf}
 use Rattle.format.specs.Irep.{handler, poolEntry, text, counted, headAt, Body, body, Rec, bodyAt, recordAt, recordsFrom, irepSection}
-use Rattle.format.specs.Debug.{File}
 use Rattle.format.specs.Load.{Before, start, recordRow, recordRows, gathered, Nine}
 use Rattle.rows.specs.declared.Rows.the-variants as rows
 use Rattle.rows.specs.declared.Row.the-variants.{Pool, Symbol}
@@ -310,11 +309,6 @@ held rs =
       pool = gathered (λ r. r .body .pool) rs;
       symbols = gathered (λ r. r .body .symbols) rs;
     }
-
--- a row for each record
-pub length-rows : (b : Before) (rs : List Rec) (nss : List (List NameRow)) (fss : List (List File)) → length (recordRows b rs nss fss) ≡ length rs
-length-rows b [] nss fss = refl
-length-rows b (r ∷ rs) nss fss = ap suc (length-rows _ rs _ _)
 
 module _ (limit : ℕ) (m : Nine) where
   -- how a run of the section goes with a reading of it

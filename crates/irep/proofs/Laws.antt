@@ -2,7 +2,7 @@
 -- Assumes nothing.
 use Prim.Native.Nat.{ℕ, zero, suc, _+_, _-_, _≤_, _<_}
 use mathlib.Core.Path.{_≡_, refl}
-use mathlib.Core.Bool.{Bool, true, false, cond}
+use mathlib.Core.Bool.{Bool, true, false}
 use mathlib.Core.List.{List}
 use native.Mathlib.Omega.{arith}
 use native.Mathlib.Nat.{add-zero, add-assoc}
@@ -13,6 +13,7 @@ use borrow.Author.Tests.{le-leb, lt-leb, eqb-false}
 use Rattle.format.specs.Bytes.{has, u32At}
 use Rattle.format.specs.Headers.{irepHeader, recordHeader}
 use Rattle.format.specs.Irep.{Head, headAt}
+use Rattle.format.proofs.Answers.{either}
 use Rattle.headers.specs.declared.SectionIrepHeaderRead.{SectionIrepHeaderRead}
 use Rattle.headers.specs.declared.IrepRecordRead.{IrepRecordRead}
 use Rattle.headers.specs.Headers.{sectionIrepHeaderOf, irepRecordOf}
@@ -69,10 +70,6 @@ module _ (at : ℕ) where
   unfolding Later
   refuses k next v e = let z : _≡_ {A = ℕ} 0 1 = cc in elim (nothing (omega arith)) [ ]
 
-  either : (b : Bool) (x y : Run) → Later at (x .ans) → Later at (y .ans) → Later at (cond b x y .ans)
-  either true x y p q = p
-  either false x y p q = q
-
   after : (a : Content) (k : Used → Run) (e : ℕ → Run) → ((v : Used) → Later at (k v .ans)) → ((n : ℕ) → Later at (e n .ans)) → Later at (onContent a k e .ans)
   after (content.Read v) k e p q = p v
   after (content.Refused n) k e p q = q n
@@ -93,15 +90,17 @@ module _ (at : ℕ) where
 pub record-next : (f : List ℕ) (base limit at : ℕ) (t : Lent) (u : Used) (next : ℕ) (v : Used) → recordOf f base limit at t u .ans ≡ Next next v → at < next
 unfolding recordOf Later
 record-next f base limit at t u =
-    either at (has f at 16) _ _
-    (either at (leb limit (u .records)) _ _ (refuses at 14)
-    (either at (leb (rowCount (length (t .records)) 19) (u .records)) _ _ (refuses at 14)
-    (either at (has f (at + 16) (headAt f at .ilen)) _ _
-    (after at (bodyOf f base (headAt f at .clen) (at + 16 + headAt f at .ilen) (t .handlers) (t .pool) (t .symbols) u .ans) _ _
-    (λ v. finish-later at (headAt f at) base (t .records) u v)
+    let P : Run → Type 0 = λ x. Later at (x .ans) in
+    let h = headAt f at in
+    either P (has f at 16) _ _
+    (λ _. either P (leb limit (u .records)) _ _ (λ _. refuses at 14)
+    (λ _. either P (leb (rowCount (length (t .records)) 19) (u .records)) _ _ (λ _. refuses at 14)
+    (λ _. either P (has f (at + 16) (h .ilen)) _ _
+    (λ _. after at (bodyOf f base (h .clen) (at + 16 + h .ilen) (t .handlers) (t .pool) (t .symbols) u .ans) _ _
+    (λ v. finish-later at h base (t .records) u v)
     (λ k. refuses at k))
-    (refuses at 7))))
-    (refuses at 7)
+    (λ _. refuses at 7))))
+    (λ _. refuses at 7)
 
 module _ (f : List ℕ) (base size limit at : ℕ) (t : Lent) (u : Used) where
   -- the place reaches the size

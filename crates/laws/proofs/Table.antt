@@ -3,13 +3,10 @@
 -- Assumes nothing.
 use Prim.Native.Nat.{ℕ, suc, _≤_}
 use mathlib.Core.Path.{_≡_, refl, ap}
-use mathlib.Core.Bool.{Bool}
 use mathlib.Core.List.{List, [], _∷_, map}
-use lib.Dec.{eqb, eqb→eq}
 use lib.ListN.{length, List·getD-eq-default}
-use Rattle.format.specs.Insn.{Kind, Z, B, BB, S, BBB, BS, W, BSS, Row, op, NOP, on, fields, width, number, name, kind, roles, table, row, size}
+use Rattle.format.specs.Insn.{Kind, Z, B, BB, S, BBB, BS, W, BSS, Row, op, NOP, on, width, number, name, kind, table, row, size}
 use Rattle.format.specs.Rules.{byRules}
-use Rattle.format.proofs.Table.{by-test}
 
 -- the two renderings agree
 pub as-paper : map byRules table ≡ table
@@ -58,11 +55,3 @@ sizes b = kind-size (kind (row b))
 pub size-above : (b : ℕ) → 119 ≤ b → size b ≡ 1
 unfolding row table
 size-above b h = ap (λ (r : Row). suc (width (kind r))) (List·getD-eq-default table (op NOP Z [] on) {n = b} h)
-
--- as many roles as operands
-arities : Row → Bool
-arities r = eqb (length (roles r)) (length (fields (kind r)))
-
-pub roles-length : (b : ℕ) → length (roles (row b)) ≡ length (fields (kind (row b)))
-unfolding arities table row
-roles-length b = eqb→eq _ _ (by-test arities tt b)

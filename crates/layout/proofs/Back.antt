@@ -2,11 +2,11 @@
 -- a range names, read off the words, are the list that was laid there.
 -- Assumes nothing.
 use Prim.Native.Nat.{ℕ, zero, suc, _+_, _-_, _*_, _/_, _≤_, _<_}
-use native.Mathlib.Nat.{add-zero, mul-le-mul-right, le-div-iff-mul-le, suc-mul, zero-mul}
+use native.Mathlib.Nat.{add-zero, mul-le-mul-right, le-div-iff-mul-le}
 use native.Mathlib.Omega.{arith}
 use mathlib.Core.Path.{_≡_, refl, sym, _∙_}
 use mathlib.Core.Bool.{Bool, true, false, _||_, cond}
-use mathlib.Core.List.{List, [], _∷_, map}
+use mathlib.Core.List.{List, map}
 use lib.Dec.{leb, eqb}
 use lib.ListN.{length, getD, replicate, length-append, length-replicate, length-map, List·getD-map}
 use lib.Seq.{ext-getD, getD-append-add}
@@ -15,6 +15,7 @@ use Rattle.format.specs.Bytes.{ok, refused}
 use Rattle.format.specs.Rows.{Range, HandlerRow, handlerWords, PoolRow, poolWords, TextRow, textWords, NameRow, nameWords, FileRow, fileWords, LineRow, lineRow, lineWords, RecordRow, recordWords, flat, tableOf}
 use Rattle.format.specs.Line.{rowsFrom, lineRowAt}
 use Rattle.format.specs.Lookup.{word, recordRowAt, handlerRowAt, poolRowAt, textRowAt, fileRowAt, hasRow, rowIn, rowsIn}
+use Rattle.format.proofs.Places.{flat-length}
 use Rattle.format.proofs.RowsFrom.{rowsFrom-length, rowsFrom-at}
 use Rattle.layout.proofs.Own.{Own, table-row, own-word}
 
@@ -30,22 +31,18 @@ zeros (suc n) zero = refl
 zeros (suc n) (suc i) = zeros n i
 
 module _ {R : Type 0} (words : R → List ℕ) (w : ℕ) (wide : (r : R) → length (words r) ≡ w) where
-  flat-length : (rs : List R) → length (flat words rs) ≡ length rs * w
-  flat-length [] = sym (zero-mul w)
-  flat-length (r ∷ rs) = rw (length-append, wide r, flat-length rs, suc-mul) (omega arith)
-
   -- a row behind those that are used
   pub table-zero : (m : ℕ) (rs : List R) (i k : ℕ) → length rs ≤ i → getD (tableOf words m rs) (i * w + k) 0 ≡ 0
   table-zero m rs i k h =
       let a : length rs * w ≤ i * w = mul-le-mul-right w h in
-      let e : i * w + k ≡ length (flat words rs) + (i * w + k - length rs * w) = rw (flat-length rs) (omega arith) in
+      let e : i * w + k ≡ length (flat words rs) + (i * w + k - length rs * w) = rw (flat-length words w wide rs) (omega arith) in
       rw (e, getD-append-add) (zeros (m - length (flat words rs)) (i * w + k - length rs * w))
 
   module _ (pos : 0 < w) (m : ℕ) (rs : List R) (fit : length rs ≤ m / w) where
     pub table-length : length (tableOf words m rs) ≡ m
     table-length =
         let a : length rs * w ≤ m = le-div-iff-mul-le pos .0 fit in
-        rw (length-append, length-replicate, flat-length rs) (omega arith)
+        rw (length-append, length-replicate, flat-length words w wide rs) (omega arith)
 
     pub has-row : (i : ℕ) → i < length rs → hasRow w (tableOf words m rs) i ≡ true
     has-row i h = rw table-length (lt-ltb i (m / w) (omega arith))

@@ -12,30 +12,7 @@ use borrow.Author.Tests.{ltb-false}
 use Rattle.format.specs.Bytes.{Answer, ok, refused, bind, onAnswer, Step, has}
 use Rattle.format.specs.Reading.{Read, Part, part, andThen, more, inTurn}
 use Rattle.format.specs.File.{Content, sectionAt, sections, nothing, majorIs04, fileReading}
-
--- an answer is a value or a refusal, not both
-pub ok-refused : {A : Type 0} {a : A} {e : ℕ} → refused e ≡ ok a → ⊥
-ok-refused h = let z : _≡_ {A = ℕ} 0 1 = cc in omega arith
-
--- what holds either way of a test holds of its outcome
-pub either : {A : Type 0} (P : A → Type 0) (b : Bool) (x y : A) → (b ≡ true → P x) → (b ≡ false → P y) → P (cond b x y)
-either P true x y h g = h refl
-either P false x y h g = g refl
-
--- what holds of the value that was answered, if one was
-abbrev pub Answers : {A : Type 0} → (A → Type 0) → Answer A → Type 0
-Answers P (ok a) = P a
-Answers P (refused e) = Unit {0}
-
-module _ {A : Type 0} (P : A → Type 0) where
-  -- a test that refuses
-  pub tested : (b : Bool) (x : Answer A) (e : ℕ) → (b ≡ true → Answers P x) → Answers P (cond b x (refused e))
-  tested b x e h = either (Answers P) b x (refused e) h (λ _. tt)
-
-  -- an answer made of another's value
-  pub chained : {B : Type 0} (Q : B → Type 0) (x : Answer B) (k : B → Answer A) → Answers Q x → ((b : B) → Q b → Answers P (k b)) → Answers P (bind x k)
-  chained Q (ok b) k q h = h b q
-  chained Q (refused e) k q h = tt
+use Rattle.format.proofs.Answers.{ok-refused, either, Answers}
 
 -- an answer that was made of another's value, and a reading behind another: the first was not refused
 pub bind-ok : {A B : Type 0} (x : Answer A) (k : A → Answer B) (b : B) → bind x k ≡ ok b → (a : A) × (x ≡ ok a) × (k a ≡ ok b)

@@ -22,7 +22,8 @@ use Rattle.format.specs.Debug.{FileHead, above, fileHead, fileLines, File, file
 use Rattle.format.specs.File.{Content, isMark, once, afterIrep, sectionAt, nothing, fileReading}
 use Rattle.format.specs.Load.{Nine, recordsOf, stringsOf, namesOf, fileNamesOf, filesOf, tablesOf, used, fits, ending, loading}
 use Rattle.format.proofs.Table.{both}
-use Rattle.layout.proofs.Ends.{ok-refused, either, Answers, tested, chained, bind-ok, andThen-ok, Each, each-none, each-more, inTurn-each, inTurn-all, Good, GoodRows, reading-keeps, reading-small}
+use Rattle.format.proofs.Answers.{ok-refused, either, Answers, tested, chained}
+use Rattle.layout.proofs.Ends.{bind-ok, andThen-ok, Each, each-none, each-more, inTurn-each, inTurn-all, Good, GoodRows, reading-keeps, reading-small}
 
 -- bytes inside a file of n bytes
 abbrev pub TextInside : ℕ → TextRow → Type 0
@@ -94,7 +95,7 @@ module _ (f : List ℕ) (base n : ℕ) (part-of : 0 < length f → base + length
   text-inside : (at : ℕ) → Answers (λ s. TextInside n (s .it)) (text f base at)
   unfolding text
   text-inside at =
-      tested _ (has f at 2) _ 7 (λ a. tested _ (has f (at + 2) (u16At f at + 1)) _ 7 (λ b. tested _ (zeroLast f (u16At f at) (at + 2)) _ 9 (λ _.
+      tested _ _ (has f at 2) _ 7 tt (λ a. tested _ _ (has f (at + 2) (u16At f at + 1)) _ 7 tt (λ b. tested _ _ (zeroLast f (u16At f at) (at + 2)) _ 9 tt (λ _.
       let p = left f at 2 a in
       let q = left f (at + 2) (u16At f at + 1) b in
       omega (arith, ends-inside (at + 2 + u16At f at) (omega arith) (omega arith)))))
@@ -121,19 +122,19 @@ module _ (f : List ℕ) (base n : ℕ) (part-of : 0 < length f → base + length
       either P (eqb k 0) _ _ (λ e. string-inside k at (λ v. string (eqb-true k 0 e))) (λ _.
       either P (eqb k 2) _ _ (λ e. string-inside k at (λ v. static-string (eqb-true k 2 e))) (λ _.
       either P (eqb k 1) _ _
-      (λ e. tested _ (has f at 4) _ 7 (λ a. record { bytes = bytes-inside at 4 (omega arith) a; known = int32 (eqb-true k 1 e) refl })) (λ _.
+      (λ e. tested _ _ (has f at 4) _ 7 tt (λ a. record { bytes = bytes-inside at 4 (omega arith) a; known = int32 (eqb-true k 1 e) refl })) (λ _.
       either P (eqb k 3) _ _
-      (λ e. tested _ (has f at 8) _ 7 (λ a. record { bytes = bytes-inside at 8 (omega arith) a; known = int64 (eqb-true k 3 e) refl })) (λ _.
+      (λ e. tested _ _ (has f at 8) _ 7 tt (λ a. record { bytes = bytes-inside at 8 (omega arith) a; known = int64 (eqb-true k 3 e) refl })) (λ _.
       either P (eqb k 5) _ _
-      (λ e. tested _ (has f at 8) _ 7 (λ a. record { bytes = bytes-inside at 8 (omega arith) a; known = float64 (eqb-true k 5 e) refl })) (λ _.
+      (λ e. tested _ _ (has f at 8) _ 7 tt (λ a. record { bytes = bytes-inside at 8 (omega arith) a; known = float64 (eqb-true k 5 e) refl })) (λ _.
       either P (eqb k 7) _ _
-      (λ e. tested _ (has f at 1) _ 7 (λ _. tested _ (has f (at + 1) (byte f at + 1)) _ 7 (λ a.
+      (λ e. tested _ _ (has f at 1) _ 7 tt (λ _. tested _ _ (has f (at + 1) (byte f at + 1)) _ 7 tt (λ a.
       record { bytes = bytes-inside (at + 1) (byte f at + 1) (omega arith) a; known = big-integer (eqb-true k 7 e) })))
       (λ _. tt))))))
 
   entry-inside : (at : ℕ) → Answers (λ s. PoolInside n (s .it)) (poolEntry f base at)
   unfolding poolEntry
-  entry-inside at = tested _ (has f at 1) _ 7 (λ _. chained _ _ (poolValue f base (byte f at) (at + 1)) _ (value-inside (byte f at) (at + 1)) (λ v x. x))
+  entry-inside at = tested _ _ (has f at 1) _ 7 tt (λ _. chained _ _ _ (poolValue f base (byte f at) (at + 1)) _ (value-inside (byte f at) (at + 1)) (λ v x. x))
 
   counted-each : {R : Type 0} (P : R → Type 0) (p : ℕ → Answer (Step R)) → ((at : ℕ) → Answers (λ s. P (s .it)) (p at)) → (at : ℕ) → Each P (counted f p at .rows)
   unfolding counted
@@ -202,7 +203,7 @@ module _ (f : List ℕ) (base n : ℕ) (part-of : 0 < length f → base + length
   plain-inside : (at : ℕ) → Answers (λ s. TextInside n (s .it)) (plainText f base at)
   unfolding plainText
   plain-inside at =
-      tested _ (has f at 2) _ 7 (λ a. tested _ (has f (at + 2) (u16At f at)) _ 7 (λ b. tested _ (noZero f (u16At f at) (at + 2)) _ 9 (λ _.
+      tested _ _ (has f at 2) _ 7 tt (λ a. tested _ _ (has f (at + 2) (u16At f at)) _ 7 tt (λ b. tested _ _ (noZero f (u16At f at) (at + 2)) _ 9 tt (λ _.
       let p = left f at 2 a in
       let q = left f (at + 2) (u16At f at) b in
       omega (arith, ends-inside (at + 2 + u16At f at) (omega arith) (omega arith)))))
@@ -224,7 +225,7 @@ walk-each P visit x spent (r ∷ rs) (suc pending) at =
 name-inside : (f : List ℕ) (count at : ℕ) → Answers (λ s. NameInside count (s .it)) (nameEntry f count at)
 unfolding nameEntry
 name-inside f count at =
-    tested _ (has f at 2) _ 7 (λ _. tested _ (eqb (u16At f at) 65535 || ltb (u16At f at) count) _ 11 (λ e. go (eqb (u16At f at) 65535) (ltb (u16At f at) count) refl refl e))
+    tested _ _ (has f at 2) _ 7 tt (λ _. tested _ _ (eqb (u16At f at) 65535 || ltb (u16At f at) count) _ 11 tt (λ e. go (eqb (u16At f at) 65535) (ltb (u16At f at) count) refl refl e))
   where
     go : (a b : Bool) → eqb (u16At f at) 65535 ≡ a → ltb (u16At f at) count ≡ b → a || b ≡ true → (u16At f at ≡ 65535) ⊎ (u16At f at < count)
     go true b p q e = inl (eqb-true (u16At f at) 65535 p)
@@ -262,8 +263,8 @@ lvar-inside f base n part-of rs =
 head-inside : (s : List ℕ) (names : ℕ) (last : Option ℕ) (at : ℕ) → Answers (λ h. h .name < names) (fileHead s names last at)
 unfolding fileHead
 head-inside s names last at =
-    tested _ (has s at 4) _ 7 (λ _. tested _ (above last (u32At s at)) _ 12 (λ _. tested _ (has s (at + 4) 2) _ 7 (λ _.
-    tested _ (ltb (u16At s (at + 4)) names) _ 12 (λ e. tested _ (has s (at + 6) 5) _ 7 (λ _. tested _ (leb (byte s (at + 10)) 2) _ 12 (λ _.
+    tested _ _ (has s at 4) _ 7 tt (λ _. tested _ _ (above last (u32At s at)) _ 12 tt (λ _. tested _ _ (has s (at + 4) 2) _ 7 tt (λ _.
+    tested _ _ (ltb (u16At s (at + 4)) names) _ 12 tt (λ e. tested _ _ (has s (at + 6) 5) _ 7 tt (λ _. tested _ _ (leb (byte s (at + 10)) 2) _ 12 tt (λ _.
     ltb-true (u16At s (at + 4)) names e))))))
 
 files-inside : (s : List ℕ) (names n : ℕ) (last : Option ℕ) (at : ℕ) → Each (FileInside names) (filesFrom s names n last at .rows)

@@ -29,7 +29,8 @@ use Rattle.debug.proofs.Join as debug
 use Rattle.debug.proofs.Join.{debug-ran}
 use Rattle.debug.specs.Section.{debugOf}
 use Rattle.bounds.proofs.Bounds.{reading-bounds}
-use Rattle.bounds.proofs.Grows.{Ordered, Less, length-rows, same, Grown, section-grows, sections-grow}
+use Rattle.format.proofs.Places.{rows-length}
+use Rattle.bounds.proofs.Grows.{Ordered, Less, same, Grown, section-grows, sections-grow}
 use Rattle.rite.proofs.Fits.{Room, room-less, fits-true, fits-false}
 use Rattle.sections.specs.declared.Used.{Used}
 use Rattle.sections.specs.declared.Progress.{Progress}
@@ -105,7 +106,7 @@ module _ (limit : ℕ) (m : Nine) (f : List ℕ) (at : ℕ) where
       by-run : IrepRan limit m (irepSection (drop at f) at) (irepOf (drop at f) at limit (lentOf m (held [])))
           → SectionRan (let s = irepSection (drop at f) at in part (content (some (s .rows)) none none) (s .end))
           (byMark f limit at (W nothing) (progressOf nothing) mark-is.Irep)
-      by-run (Ran.went size e x d) = rw (d, length-rows start (irepSection (drop at f) at .rows) [] []) (Ran.went size e (room x) refl)
+      by-run (Ran.went size e x d) = rw (d, rows-length (irepSection (drop at f) at .rows) start [] []) (Ran.went size e (room x) refl)
       by-run (Ran.stop k e x d) = rw d (Ran.stop k e (room x) refl)
       by-run (Ran.full x d) = rw d (Ran.full (λ z. x (record { within = z .limited; records = z .records; handlers = z .handlers; pool = z .pool; symbols = z .symbols })) refl)
   irep-section none none (some d) o r = absurd o
@@ -115,7 +116,7 @@ module _ (limit : ℕ) (m : Nine) (f : List ℕ) (at : ℕ) where
   -- the records' rows are in their table
   counted : (c : Content) → Room limit m c → ltb (rowCount (length (W c .records)) 19) (length (recordsOf c)) ≡ false
   counted c r =
-      let e = length-rows start (recordsOf c) (namesOf c) (filesOf c) in
+      let e = rows-length (recordsOf c) start (namesOf c) (filesOf c) in
       rw (length-table recordWords 19 (λ _. refl) (omega arith) (m .records) (tablesOf c .records) (r .records)) (le-ltb (rowCount (m .records) 19) (length (recordsOf c)) (omega (arith, r .records)))
 
   -- LVAR behind IREP
@@ -128,8 +129,8 @@ module _ (limit : ℕ) (m : Nine) (f : List ℕ) (at : ℕ) where
 
     lvar-room : lvar.Room m (drop at f) at rs fss (P .it) → Room limit m (content (some rs) (some (P .it)) d)
     lvar-room x =
-        let e = length-rows start rs [] fss in
-        let e′ = length-rows start rs (P .it .names) fss in
+        let e = rows-length rs start [] fss in
+        let e′ = rows-length rs start (P .it .names) fss in
         record {
           limited = omega (arith, r .limited);
           records = omega (arith, r .records);
@@ -168,8 +169,8 @@ module _ (limit : ℕ) (m : Nine) (f : List ℕ) (at : ℕ) where
 
     dbg-room : debug.AllRoom m at rs nss (Q .it) → Room limit m (content (some rs) l (some (Q .it)))
     dbg-room x =
-        let e = length-rows start rs nss [] in
-        let e′ = length-rows start rs nss (Q .it .files) in
+        let e = rows-length rs start nss [] in
+        let e′ = rows-length rs start nss (Q .it .files) in
         let g = length-files 0 (joined (Q .it .files)) in
         record {
           limited = omega (arith, r .limited);
@@ -313,6 +314,6 @@ module _ (m : Nine) (f : List ℕ) (bytes : (i : ℕ) → getD f i 0 < 256) wher
   load-is = by-run (file-ran 1024 m f)
     where
       by-run : FileRan 1024 m f p o → load f m ≡ onLoaded (o .ans) (λ u. loadedOf (loaded-is.Rows u) (o .tables)) (λ e. loadedOf (loaded-is.Refused e) (wordsOf m (tablesOf nothing)))
-      by-run (Ran.went at e x d) = rw d (is-loaded at e (fits-true 1024 m (p .it) x) ∙ rw (length-rows start (recordsOf (p .it)) (namesOf (p .it)) (filesOf (p .it)), length-files 0 (joined (filesOf (p .it)))))
+      by-run (Ran.went at e x d) = rw d (is-loaded at e (fits-true 1024 m (p .it) x) ∙ rw (rows-length (recordsOf (p .it)) start (namesOf (p .it)) (filesOf (p .it)), length-files 0 (joined (filesOf (p .it)))))
       by-run (Ran.stop k e x d) = rw d (is-refused k e (fits-true 1024 m (p .it) x))
       by-run (Ran.full x d) = rw d (is-full (fits-false 1024 m (p .it) (omega arith) (reading-bounds f bytes) x))

@@ -2,9 +2,9 @@
 -- the reading does, with the rows read behind those, as long as the table has them; else by 14. For every kind of row.
 -- Assumes nothing.
 use Prim.Native.Nat.{ℕ, zero, suc, _+_, _-_, _*_, _/_, _≤_, _<_}
-use native.Mathlib.Nat.{le-div-iff-mul-le, suc-mul, zero-mul}
+use native.Mathlib.Nat.{le-div-iff-mul-le}
 use native.Mathlib.Omega.{arith}
-use mathlib.Core.Path.{_≡_, refl, sym}
+use mathlib.Core.Path.{_≡_, refl}
 use mathlib.Core.Bool.{Bool, true, false, cond, _||_}
 use mathlib.Core.List.{List, [], _∷_, _++_, append-assoc, append-nil}
 use lib.Dec.{eqb, ltb}
@@ -16,6 +16,7 @@ use Rattle.format.specs.Reading.{Read, reading, inTurn}
 use Rattle.format.specs.Rows.{TextRow, flat, tableOf, handlerWords, poolWords, textWords, nameWords}
 use Rattle.format.specs.Irep.{handler, text, poolValue, ofKind, poolEntry, counted}
 use Rattle.format.specs.Lvar.{plainText, nameEntry}
+use Rattle.format.proofs.Places.{flat-length}
 use Rattle.rows.specs.declared.Rows.the-variants.{Next, Refused}
 use Rattle.rows.specs.Table.{Out, out, splice, rowCount, putOf, putStep, times}
 use Rattle.rows.specs.Rows.{spanOf, textOf, plainTextOf, poolValueOf, handlerOf, poolPut, poolOf, textPut, symbolOf, stringOf, nameOf}
@@ -44,21 +45,17 @@ module _ {R : Type 0} (words : R → List ℕ) where
       rw (← e, take-at F (replicate (m - length F) 0) (length F) refl, drop-append-add, drop-replicate, flat-snoc, length-append, k)
 
 module _ {R : Type 0} (words : R → List ℕ) (w : ℕ) (wide : (r : R) → length (words r) ≡ w) (pos : 0 < w) (m : ℕ) where
-  pub length-flat : (rs : List R) → length (flat words rs) ≡ length rs * w
-  length-flat [] = sym (zero-mul w)
-  length-flat (r ∷ rs) = rw (length-append, wide r, length-flat rs, suc-mul) (omega arith)
-
   -- a table with room has its own length
   pub length-table : (rs : List R) → length rs ≤ rowCount m w → length (tableOf words m rs) ≡ m
   length-table rs h =
       let k : length rs ≤ m / w = omega arith in
       let i : length rs * w ≤ m = le-div-iff-mul-le pos .0 k in
-      rw (length-append, length-replicate, length-flat rs) (omega arith)
+      rw (length-append, length-replicate, flat-length words w wide rs) (omega arith)
 
   pub put-there : (rs : List R) (x : R) (next : ℕ) → length rs < rowCount m w → putOf next (length rs) (tableOf words m rs) (words x) ≡ out (Next next (length (rs ++ x ∷ []))) (tableOf words m (rs ++ x ∷ []))
   put-there rs x next h =
       let e : length (rs ++ x ∷ []) ≡ length rs + 1 = length-append rs (x ∷ []) in
-      rw (e, ← put-table words m rs x (length rs * w) (length-flat rs), length-table rs (omega arith), wide x, lt-ltb (length rs) (rowCount m w) h)
+      rw (e, ← put-table words m rs x (length rs * w) (flat-length words w wide rs), length-table rs (omega arith), wide x, lt-ltb (length rs) (rowCount m w) h)
 
   pub put-full : (rs : List R) (x : R) (next : ℕ) → length rs ≤ rowCount m w → rowCount m w ≤ length rs → putOf next (length rs) (tableOf words m rs) (words x) ≡ out (Refused 14) (tableOf words m rs)
   put-full rs x next h g = rw (length-table rs h, wide x, le-ltb _ _ g)

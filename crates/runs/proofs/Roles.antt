@@ -12,7 +12,8 @@ use Rattle.format.specs.Insn.{Role, reg, pool, sym as symbol, child, plain, fie
 use Rattle.format.specs.Pattern.{Record}
 use Rattle.format.specs.Exam.{Below, below, allBelow}
 use Rattle.format.proofs.Table.{both}
-use Rattle.runs.proofs.Table.{roles-length, operands-length}
+use Rattle.format.proofs.Table.{roles-length}
+use Rattle.runs.proofs.Table.{operands-length}
 
 -- an instruction has a role for each operand
 pub args-fit : (c : List ℕ) (o : ℕ) → length (roles (rowAt c o)) ≡ length (operandsAt c o)

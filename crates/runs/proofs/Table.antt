@@ -6,24 +6,16 @@ use mathlib.Core.Bool.{Bool, true, false, _||_, not}
 use mathlib.Core.Option.{some}
 use mathlib.Core.List.{List, [], _∷_}
 use native.Mathlib.Omega.{arith}
-use lib.Dec.{T, eqb, eqb→eq}
+use lib.Dec.{T}
 use lib.ListN.{length, List·getD-eq-default}
-use Rattle.format.specs.Insn.{Kind, Z, B, BB, S, BBB, BS, W, BSS, Role, reg, pool, sym as symbol, child, plain, Flow, on, ends, jumps, may, NOP, Row, op, fields, width, kind, roles, flow, table, row, operands}
+use Rattle.format.specs.Insn.{Kind, Z, B, BB, S, BBB, BS, W, BSS, Role, reg, pool, sym as symbol, child, plain, Flow, on, ends, jumps, may, NOP, Row, op, width, kind, roles, flow, table, row, operands}
 use Rattle.format.specs.Run.{childOperand}
 use Rattle.format.proofs.Table.{by-test}
-
--- as many roles as the kind has operands
-arities : Row → Bool
-arities r = eqb (length (roles r)) (length (fields (kind r)))
 
 pub operands-length : (ws : List ℕ) (c : List ℕ) (i : ℕ) → length (operands ws c i) ≡ length ws
 unfolding operands
 operands-length [] c i = refl
 operands-length (w ∷ ws) c i = ap suc (operands-length ws c (i + w))
-
-pub roles-length : (b : ℕ) → length (roles (row b)) ≡ length (fields (kind (row b)))
-unfolding arities table row
-roles-length b = eqb→eq _ _ (by-test arities tt b)
 
 -- a child opcode goes on to the next offset
 isChild : Role → Bool

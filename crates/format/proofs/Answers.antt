@@ -1,0 +1,56 @@
+-- Laws of answers and of tests: what holds of the value that was answered, or of the number of the refusal.
+-- Assumes nothing.
+use Prim.Native.Nat.{ℕ}
+use native.Mathlib.Omega.{arith}
+use mathlib.Core.Path.{_≡_, refl}
+use mathlib.Core.Bool.{Bool, true, false, cond}
+use Rattle.format.specs.Bytes.{Answer, ok, refused, bind, onAnswer}
+
+-- an answer is a value or a refusal, not both
+pub ok-refused : {A : Type 0} {a : A} {e : ℕ} → refused e ≡ ok a → ⊥
+ok-refused h = let z : _≡_ {A = ℕ} 0 1 = cc in omega arith
+
+-- and of one value, or of one number
+pub ok-same : {A : Type 0} {a b : A} → ok a ≡ ok b → a ≡ b
+ok-same e = cc
+
+pub refused-same : {A : Type 0} {m n : ℕ} → _≡_ {A = Answer A} (refused m) (refused n) → m ≡ n
+refused-same e = cc
+
+-- what holds either way of a test holds of its outcome
+pub either : {A : Type 0} (P : A → Type 0) (b : Bool) (x y : A) → (b ≡ true → P x) → (b ≡ false → P y) → P (cond b x y)
+either P true x y h g = h refl
+either P false x y h g = g refl
+
+-- P holds of the value that was answered, R of the number of the refusal
+abbrev pub Holds : {A : Type 0} → (A → Type 0) → (ℕ → Type 0) → Answer A → Type 0
+Holds P R (ok a) = P a
+Holds P R (refused e) = R e
+
+-- of the value alone, and of the number alone
+abbrev pub Answers : {A : Type 0} → (A → Type 0) → Answer A → Type 0
+Answers P x = Holds P (λ _. Unit {0}) x
+
+abbrev pub Refuses : {A : Type 0} → (ℕ → Type 0) → Answer A → Type 0
+Refuses R x = Holds (λ _. Unit {0}) R x
+
+-- nothing is said of either
+pub anything : {A : Type 0} (x : Answer A) → Answers (λ _. Unit {0}) x
+anything (ok a) = tt
+anything (refused e) = tt
+
+-- what holds of all that may be made of an answer holds of what is made of it
+pub answered : {A B : Type 0} (Q : A → Type 0) (R : ℕ → Type 0) (P : B → Type 0) (x : Answer A) (k : A → B) (r : ℕ → B)
+    → Holds Q R x → ((a : A) → Q a → P (k a)) → ((e : ℕ) → R e → P (r e)) → P (onAnswer x k r)
+answered Q R P (ok a) k r q h g = h a q
+answered Q R P (refused e) k r q h g = g e q
+
+module _ {A : Type 0} (P : A → Type 0) (R : ℕ → Type 0) where
+  -- a test that refuses
+  pub tested : (b : Bool) (x : Answer A) (e : ℕ) → R e → (b ≡ true → Holds P R x) → Holds P R (cond b x (refused e))
+  tested b x e r h = either (Holds P R) b x (refused e) h (λ _. r)
+
+  -- an answer made of another's value
+  pub chained : {B : Type 0} (Q : B → Type 0) (x : Answer B) (k : B → Answer A) → Holds Q R x → ((b : B) → Q b → Holds P R (k b)) → Holds P R (bind x k)
+  chained Q (ok b) k q h = h b q
+  chained Q (refused e) k q h = q
