@@ -39,6 +39,11 @@ pub anything : {A : Type 0} (x : Answer A) → Answers (λ _. Unit {0}) x
 anything (ok a) = tt
 anything (refused e) = tt
 
+-- less is said of the number
+pub weaker : {A : Type 0} (P : A → Type 0) (R S : ℕ → Type 0) (x : Answer A) → Holds P R x → ((e : ℕ) → R e → S e) → Holds P S x
+weaker P R S (ok a) h g = h
+weaker P R S (refused e) h g = g e h
+
 -- what holds of all that may be made of an answer holds of what is made of it
 pub answered : {A B : Type 0} (Q : A → Type 0) (R : ℕ → Type 0) (P : B → Type 0) (x : Answer A) (k : A → B) (r : ℕ → B)
     → Holds Q R x → ((a : A) → Q a → P (k a)) → ((e : ℕ) → R e → P (r e)) → P (onAnswer x k r)

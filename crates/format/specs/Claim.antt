@@ -1,6 +1,6 @@
 -- Demand 3: what holds of the run of a passing file along every list of choices, one claim about the whole list.
 -- Assumes nothing.
-use Prim.Native.Nat.{ℕ, suc, _-_, _/_, _≤_, _<_}
+use Prim.Native.Nat.{ℕ, suc, _/_, _≤_, _<_}
 use mathlib.Core.Path.{_≡_}
 use mathlib.Core.Logic.{_↔_}
 use mathlib.Core.List.{List, [], _∷_}
@@ -45,9 +45,9 @@ pub record Claim (f : List ℕ) (c : Content) (cs : List Choice) : Type 0 where
       → getD (run (patternOf f c) cs) (suc i) (frame 0 0) .rec < getD (run (patternOf f c) cs) i (frame 0 0) .rec
   -- "the frames never outnumber the records"
   pub few : length (run (patternOf f c) cs) ≤ length (recordsOf c)
-  -- "with an LVAR section each record has nlocals - 1 names"
+  -- "with an LVAR section each record has nlocals - 1 names": one more than its names is nlocals
   pub names : (l : Lvar) → c .lvar ≡ some l → (i : ℕ) (r : Rec) → i < length (recordsOf c)
-      → length (getD (l .names) i []) ≡ getD (recordsOf c) i r .head .nlocals - 1
+      → suc (length (getD (l .names) i [])) ≡ getD (recordsOf c) i r .head .nlocals
   pub follows : (m : Nine) (n : ℕ) (bs : List ℕ) → loading f m ≡ ok c → length (recordsOf c) ≤ n / 2 → choices bs ≡ ok cs
       → FollowHolds f c (run (patternOf f c) cs) m n bs
   -- "bytes that are no list of choices meet 21"

@@ -1,10 +1,10 @@
 -- Demand 3, for every file that passes and every list of choices.
 -- Assumes nothing.
-use Prim.Native.Nat.{ℕ, _+_, _-_, _*_, _/_, _≤_, _<_}
+use Prim.Native.Nat.{ℕ, suc, _+_, _*_, _/_, _≤_, _<_}
 use native.Mathlib.Nat.{le-refl}
 use native.Mathlib.Omega.{arith}
 use mathlib.Core.Path.{_≡_, refl, sym, ap, subst, _∙_}
-use mathlib.Core.Bool.{Bool, true, false, cond}
+use mathlib.Core.Bool.{cond}
 use mathlib.Core.List.{List, [], _∷_}
 use mathlib.Core.Option.{some}
 use lib.Dec.{eqb}
@@ -21,6 +21,7 @@ use Rattle.format.specs.Pattern.{recordsWith, patternOf, rlens}
 use Rattle.format.specs.Exam.{FilePasses, examinePattern, passing}
 use Rattle.format.specs.Run.{Choice, go-on, jump, enter, leave, caught, run, Due, kind, high, low, put, byKind, choicesFrom, choices, standing, frameTable, following, follow}
 use Rattle.format.specs.Claim.{FollowHolds, Claim}
+use Rattle.format.proofs.Answers.{ok-same, either, Refuses}
 use Rattle.layout.proofs.Inside.{loading-reading}
 use Rattle.layout.proofs.Pattern.{pattern-length}
 use Rattle.runs.proofs.Tree.{whole-iff}
@@ -33,44 +34,37 @@ pattern-rlens : (f : List ℕ) (rs : List Rec) (fss : List (List File)) → rlen
 pattern-rlens f [] fss = refl
 pattern-rlens f (r ∷ rs) fss = ap (λ l. r .head .rlen ∷ l) (pattern-rlens f rs (drop 1 fss))
 
-ok-same : {A : Type 0} {a b : A} → ok a ≡ ok b → a ≡ b
-ok-same e = cc
-
 -- bytes are a list of choices, or meet 21
-data Choices : Answer (List Choice) → Type 0 where
-  are : (cs : List Choice) → Choices (ok cs)
-  meet21 : Choices (refused 21)
+abbrev pub Meets21 : Answer (List Choice) → Type 0
+Meets21 a = Refuses (λ e. e ≡ 21) a
 
-put-choices : (x : Choice) (a : Answer (List Choice)) → Choices a → Choices (put x a)
-put-choices x a (are cs) = are (x ∷ cs)
-put-choices x a meet21 = meet21
+put-21 : (x : Choice) (a : Answer (List Choice)) → Meets21 a → Meets21 (put x a)
+put-21 x (ok cs) h = tt
+put-21 x (refused e) h = h
 
-kind-choices : (b : ℕ) (a : Answer (List Choice)) → Choices a → Choices (byKind b a)
-kind-choices b a h = go (eqb b 0) (eqb b 1) (eqb b 2) (eqb b 3) (eqb b 4)
-  where
-    go : (p q r s t : Bool) → Choices (cond p (put go-on a) (cond q (put jump a) (cond r (put enter a) (cond s a (cond t (put leave a) (refused 21))))))
-    go true q r s t = put-choices go-on a h
-    go false true r s t = put-choices jump a h
-    go false false true s t = put-choices enter a h
-    go false false false true t = h
-    go false false false false true = put-choices leave a h
-    go false false false false false = meet21
+kind-21 : (b : ℕ) (a : Answer (List Choice)) → Meets21 a → Meets21 (byKind b a)
+kind-21 b a h =
+    either Meets21 (eqb b 0) _ _ (λ _. put-21 go-on a h)
+    (λ _. either Meets21 (eqb b 1) _ _ (λ _. put-21 jump a h)
+    (λ _. either Meets21 (eqb b 2) _ _ (λ _. put-21 enter a h)
+    (λ _. either Meets21 (eqb b 3) _ _ (λ _. h)
+    (λ _. either Meets21 (eqb b 4) _ _ (λ _. put-21 leave a h) (λ _. refl)))))
 
-choices-or : (d : Due) (bs : List ℕ) → Choices (choicesFrom d bs)
+pub choices-21 : (bs : List ℕ) (d : Due) → Meets21 (choicesFrom d bs)
 unfolding choicesFrom
-choices-or kind [] = are []
-choices-or high [] = meet21
-choices-or (low h) [] = meet21
-choices-or kind (b ∷ bs) = kind-choices b _ (choices-or (cond (eqb b 3) high kind) bs)
-choices-or high (b ∷ bs) = choices-or (low b) bs
-choices-or (low h) (b ∷ bs) = put-choices (caught (h * 256 + b)) _ (choices-or kind bs)
+choices-21 [] kind = tt
+choices-21 [] high = refl
+choices-21 [] (low h) = refl
+choices-21 (b ∷ bs) kind = let d = cond (eqb b 3) high kind in kind-21 b (choicesFrom d bs) (choices-21 bs d)
+choices-21 (b ∷ bs) high = choices-21 bs (low b)
+choices-21 (b ∷ bs) (low h) = put-21 (caught (h * 256 + b)) (choicesFrom kind bs) (choices-21 bs kind)
 
 refused-21 : (bs : List ℕ) → ((ds : List Choice) → ¬ (choices bs ≡ ok ds)) → choices bs ≡ refused 21
-refused-21 bs none-are = go (choices bs) refl (choices-or kind bs)
+refused-21 bs none-are = go (choices bs) refl (choices-21 bs kind)
   where
-    go : (a : Answer (List Choice)) → choices bs ≡ a → Choices a → choices bs ≡ refused 21
-    go a e (are cs) = absurd (none-are cs e)
-    go a e meet21 = e
+    go : (a : Answer (List Choice)) → choices bs ≡ a → Meets21 a → choices bs ≡ refused 21
+    go (ok cs) e h = absurd (none-are cs e)
+    go (refused k) e h = e ∙ ap refused h
 
 module _ (f : List ℕ) (c : Content) (e0 : examinePattern (patternOf f c) ≡ 0) (m : Nine) (n : ℕ) (bs : List ℕ)
     (l : loading f m ≡ ok c) (h : length (recordsOf c) ≤ n / 2) where
@@ -110,17 +104,18 @@ module _ (f : List ℕ) (c : Content) (e0 : examinePattern (patternOf f c) ≡ 0
   unfolding follow
   others-21 none-are = let q = follow-21 (refused-21 bs none-are) in rw q (refl, refl)
 
--- what was read has nlocals - 1 names for each record, where its tree is whole
+-- what was read has a name for each local but one of each record, where its tree is whole
 abbrev AllNamed : Content → Type 0
 AllNamed c = (l : Lvar) → c .lvar ≡ some l → Whole (walk.rlens (recordsOf c)) → (i : ℕ) (r : Rec) → i < length (recordsOf c)
     → walk.Named (getD (recordsOf c) i r) (getD (namesOf c) i [])
 
-names-of : (f : List ℕ) (c : Content) (m : Nine) → loading f m ≡ ok c → Whole (rlens (patternOf f c)) → (l : Lvar) → c .lvar ≡ some l → (i : ℕ) (r : Rec) → i < length (recordsOf c)
-    → length (getD (l .names) i []) ≡ getD (recordsOf c) i r .head .nlocals - 1
+names-of : (f : List ℕ) (c : Content) (m : Nine) → loading f m ≡ ok c → Whole (rlens (patternOf f c))
+    → (l : Lvar) → c .lvar ≡ some l → (i : ℕ) (r : Rec) → i < length (recordsOf c)
+    → suc (length (getD (l .names) i [])) ≡ getD (recordsOf c) i r .head .nlocals
 names-of f c m q w l e i r h =
     let x = loading-reading f m c q in
     let all : AllNamed c = subst AllNamed (x .0) (walk.file-names f (x .1 .0) (x .1 .1)) in
-    let named = all l e (rw (pattern-rlens f (recordsOf c) (filesOf c)) at w) i r h .names in
+    let named = all l e (rw (pattern-rlens f (recordsOf c) (filesOf c)) at w) i r h in
     rw e at named
 
 module _ (f : List ℕ) (x : FilePasses f) where
@@ -140,3 +135,15 @@ module _ (f : List ℕ) (x : FilePasses f) where
         follows = λ m n bs l h e. follow-holds f c e0 m n bs l h cs e;
         others = λ m n bs l h no-list. others-21 f c e0 m n bs l h no-list;
       }
+
+-- "Each set of tables in which F loads": what a file holds is the same in all tables in which it loads
+pub loads-same : (f : List ℕ) (m m′ : Nine) (c c′ : Content) → loading f m ≡ ok c → loading f m′ ≡ ok c′ → c ≡ c′
+loads-same f m m′ c c′ e e′ = sym (loading-reading f m c e .0) ∙ loading-reading f m′ c′ e′ .0
+
+-- so what is claimed of follow is claimed over any tables in which a passing file loads
+pub follow-anywhere : (f : List ℕ) → FilePasses f → (cs : List Choice) (m : Nine) (c : Content) → loading f m ≡ ok c
+    → (n : ℕ) → length (recordsOf c) ≤ n / 2 → (bs : List ℕ) → choices bs ≡ ok cs → FollowHolds f c (run (patternOf f c) cs) m n bs
+follow-anywhere f x cs m c e n h bs q =
+    let same = loads-same f (x .tables) m (x .content) c (x .loads) e in
+    let claim = subst (λ (d : Content). Claim f d cs) same (demand3 f x cs) in
+    claim .follows m n bs e h q

@@ -17,15 +17,10 @@ use Rattle.format.specs.Load.{Nine, tablesOf, used, loading}
 use Rattle.format.specs.Tree.{Whole, whole}
 use Rattle.format.specs.Pattern.{Record, Pattern, patternOf, recAt, blank, rlens}
 use Rattle.format.specs.Exam.{Meets, Passes, refuse, first, exam16, exam1718, exam19, exam20, examineRecord, examineAll, examinePattern, passing, examining, examine}
+use Rattle.format.proofs.Answers.{ok-refused, refused-same}
 use Rattle.runs.proofs.Tests.{refuse-hit, refuse-zero}
 use Rattle.runs.proofs.Tree.{whole-iff}
 use Rattle.runs.proofs.Refusal.{passes-iff, refusal-met}
-
-ok-refused : {A : Type 0} {a : A} {n : ℕ} → ok a ≡ refused n → ⊥
-ok-refused e = let z : _≡_ {A = ℕ} 0 1 = cc in omega arith
-
-refused-same : {A : Type 0} {m n : ℕ} → _≡_ {A = Answer A} (refused m) (refused n) → m ≡ n
-refused-same e = cc
 
 -- a file that is not loaded is refused by the load's number
 pub load-refused : (f : List ℕ) (m : Nine) (n : ℕ) → loading f m ≡ refused n → examine f m .answer ≡ refused n
@@ -117,7 +112,7 @@ module _ (f : List ℕ) (m : Nine) (c : Content) (l : loading f m ≡ ok c) wher
   refused-meets n e = go (examinePattern (patternOf f c)) refl
     where
       go : (k : ℕ) → examinePattern (patternOf f c) ≡ k → Meets (patternOf f c) n
-      go zero q = absurd (ok-refused (sym (answer-is 0 q) ∙ e))
+      go zero q = absurd (ok-refused (sym e ∙ answer-is 0 q))
       go (suc k) q = subst (λ x. Meets (patternOf f c) x) (refused-same (sym (answer-is (suc k) q) ∙ e)) (refusal-met (patternOf f c) k q)
 
   -- and the first in order
@@ -125,7 +120,7 @@ module _ (f : List ℕ) (m : Nine) (c : Content) (l : loading f m ≡ ok c) wher
   refused-first n e = go (examinePattern (patternOf f c)) refl
     where
       go : (k : ℕ) → examinePattern (patternOf f c) ≡ k → InOrder (patternOf f c) n
-      go zero q = absurd (ok-refused (sym (answer-is 0 q) ∙ e))
+      go zero q = absurd (ok-refused (sym e ∙ answer-is 0 q))
       go (suc k) q = subst (λ x. InOrder (patternOf f c) x) (refused-same (sym (answer-is (suc k) q) ∙ e)) (in-order (patternOf f c) k q)
 
   -- it passes exactly where none of 15 to 20 is met, and answers the rows used
@@ -134,4 +129,4 @@ module _ (f : List ℕ) (m : Nine) (c : Content) (l : loading f m ≡ ok c) wher
     where
       go : examine f m .answer ≡ ok (used (tablesOf c)) → (k : ℕ) → examinePattern (patternOf f c) ≡ k → examinePattern (patternOf f c) ≡ 0
       go e zero q = q
-      go e (suc k) q = absurd (ok-refused (sym e ∙ answer-is (suc k) q))
+      go e (suc k) q = absurd (ok-refused (sym (answer-is (suc k) q) ∙ e))

@@ -4,4 +4,7 @@ pub mod Walk
 pub mod Audit
 pub mod Exact
 pub mod Demand3
+pub mod Endings
+pub mod Counts
+pub mod Refusals
 pub mod Samples

@@ -18,12 +18,15 @@ use Rattle.format.specs.File.{endSection, sectionAt, sections, fileReading}
 use Rattle.format.specs.Load.{Nine, fits, ending, loading, load}
 use Rattle.format.specs.Line.{halve, lineAt, rising}
 use Rattle.format.specs.Tree.{layout, whole, span, childOf}
-use Rattle.format.specs.Pattern.{Record, reach, lands}
-use Rattle.format.specs.Exam.{readable, below, allBelow, operandsBelow, follows, firstAt, firstOf, exam16, exam1718, exam19, exam20, examineRecord, examineAll, examinePattern, passing, examining, examine}
-use Rattle.format.specs.Run.{frame, go-on, caught, leave, childOperand, move, oneStep, runFrom, choicesFrom, choices, finished, stands, standing, laidFrames, frameTable, following, follow}
+use Rattle.format.specs.Pattern.{Record, patternOf, reach, lands}
+use Rattle.format.specs.Exam.{FilePasses, readable, below, allBelow, operandsBelow, follows, firstAt, firstOf, exam16, exam1718, exam19, exam20, examineRecord, examineAll, examinePattern, passing, examining, examine}
+use Rattle.format.specs.Run.{Choice, frame, go-on, caught, leave, childOperand, move, oneStep, runFrom, choicesFrom, choices, finished, stands, standing, laidFrames, frameTable, following, follow}
+use Rattle.format.specs.Claim.{Claim}
+use Rattle.runs.proofs.Refusal.{passes-iff}
+use Rattle.laws.proofs.Demand3.{demand3}
 
 -- File A: header, an IREP section with one record, END
-abbrev fileA : List ℕ
+abbrev pub fileA : List ℕ
 fileA =
     82 ∷ 73 ∷ 84 ∷ 69 ∷ 48 ∷ 52 ∷ 48 ∷ 48 ∷ 0 ∷ 0 ∷ 0 ∷ 64 ∷ 0 ∷ 0 ∷ 0 ∷ 0 ∷ 0 ∷ 0 ∷ 0 ∷ 0
     ∷ 73 ∷ 82 ∷ 69 ∷ 80 ∷ 0 ∷ 0 ∷ 0 ∷ 36 ∷ 0 ∷ 0 ∷ 0 ∷ 0
@@ -57,6 +60,8 @@ record Table : Type 0 where
   whole-tree : whole (2 ∷ 0 ∷ 0 ∷ []) ≡ true
   no-tree : whole (0 ∷ 1 ∷ []) ≡ false
   no-records : examinePattern [] ≡ 15
+  a-content : loading fileA (lent 38) ≡ ok (fileReading fileA .it)
+  a-meets-none : examinePattern (patternOf fileA (fileReading fileA .it)) ≡ 0
   a-passes : examine fileA (lent 38) .answer ≡ ok (lent 1)
   a-goes-on : follow fileA (lent 38) 2 (0 ∷ []) .answer ≡ ok (stands (frame 0 2) none 1)
   a-frames : follow fileA (lent 38) 5 (0 ∷ []) .frames ≡ 0 ∷ 2 ∷ 0 ∷ 0 ∷ 0 ∷ []
@@ -68,7 +73,11 @@ record Table : Type 0 where
   cut : choices (3 ∷ 1 ∷ []) ≡ refused 21
 
 samples : Table
-unfolding table row operands opcode rest lastOf jump target fetchAs fetch packedFrom packed halve lineAt handler zeroLast text bigInteger poolValue poolEntry counted headAt bodyAt recordAt recordsFrom irepSection walk noZero plainText nameEntry recordNames lvarSection fileHead mapEntry mapLines filesFrom debugRecord debugContent debugSection packedEntry endSection sectionAt sections fileReading fits ending loading load lent alone rising layout span childOf reach lands readable below allBelow operandsBelow follows firstAt firstOf exam16 exam1718 exam19 exam20 examineRecord examineAll examinePattern passing examining examine childOperand move oneStep runFrom choicesFrom standing laidFrames frameTable following follow
+unfolding table row operands opcode rest lastOf jump target fetchAs fetch packedFrom packed halve lineAt handler zeroLast text bigInteger poolValue
+    poolEntry counted headAt bodyAt recordAt recordsFrom irepSection walk noZero plainText nameEntry recordNames lvarSection fileHead mapEntry
+    mapLines filesFrom debugRecord debugContent debugSection packedEntry endSection sectionAt sections fileReading fits ending loading load lent alone
+    rising layout span childOf reach lands readable below allBelow operandsBelow follows firstAt firstOf exam16 exam1718 exam19 exam20 examineRecord
+    examineAll examinePattern passing examining examine childOperand move oneStep runFrom choicesFrom standing laidFrames frameTable following follow
 samples = record {
   a-loads = refl;
   a-row = refl;
@@ -88,6 +97,8 @@ samples = record {
   whole-tree = refl;
   no-tree = refl;
   no-records = refl;
+  a-content = refl;
+  a-meets-none = refl;
   a-passes = refl;
   a-goes-on = refl;
   a-frames = refl;
@@ -98,3 +109,12 @@ samples = record {
   above = refl;
   cut = refl;
 }
+
+-- A is a file that passes, so demand 3 is a claim about some file: this one
+pub a-file : FilePasses fileA
+a-file =
+    let c = fileReading fileA .it in
+    record { tables = lent 38; content = c; loads = samples .a-content; passes = passes-iff (patternOf fileA c) .0 (samples .a-meets-none) }
+
+pub a-claim : (cs : List Choice) → Claim fileA (a-file .content) cs
+a-claim cs = demand3 fileA a-file cs

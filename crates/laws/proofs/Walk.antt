@@ -1,4 +1,4 @@
--- Where the tree of the records is whole, the walk visits every record once, in order; so each has nlocals - 1 names.
+-- Where the tree of the records is whole, the walk visits every record once, in order; so each has a name for each local but one.
 -- Assumes nothing.
 use Prim.Native.Nat.{ℕ, zero, suc, _+_, _-_, _≤_, _<_, suc-le-suc}
 use native.Mathlib.Nat.{le-of-suc-le-suc}
@@ -100,10 +100,9 @@ module _ {R : Type 0} (visit : Rec → ℕ → Part (List R)) where
       go false (ok next) ih = omega (arith, ih next)
       go false (refused e) ih = omega arith
 
--- the names of a record, one for each local but the first
-pub record Named (r : Rec) (ns : List NameRow) : Type 0 where
-  pub locals : 1 ≤ r .head .nlocals
-  pub names : length ns ≡ r .head .nlocals - 1
+-- the names of a record, one for each local but one: so it has a local
+abbrev pub Named : Rec → List NameRow → Type 0
+Named r ns = suc (length ns) ≡ r .head .nlocals
 
 recordNames-named : (f : List ℕ) (count : ℕ) (r : Rec) (at to : ℕ) → recordNames f count r at .end ≡ ok to → Named r (recordNames f count r at .it)
 unfolding recordNames
@@ -117,7 +116,8 @@ recordNames-named f count r at to e = go (eqb (r .head .nlocals) 0) refl e
     go true q e = absurd (ok-refused e)
     go false q e =
         let ne = eqb-false (r .head .nlocals) 0 q in
-        record { locals = omega arith; names = inTurn-all (nameEntry f count) (r .head .nlocals - 1) at to e }
+        let all = inTurn-all (nameEntry f count) (r .head .nlocals - 1) at to e in
+        omega arith
 
 -- an LVAR section that nothing refuses: "A visited record takes nlocals - 1 entries"
 pub names-count : (f : List ℕ) (base : ℕ) (rs : List Rec) (to : ℕ) → Whole (rlens rs) → lvarSection f base rs .end ≡ ok to
@@ -213,7 +213,7 @@ reading-lvar : (f : List ℕ) (to : ℕ) → fileReading f .end ≡ ok to → Lv
 reading-lvar f to e =
     reading-keeps f (λ c. LvarOf f (c .irep) (c .lvar)) (λ c at x size q. good-section f at size (c .irep) (c .lvar) (c .dbg) x q) tt to e
 
--- A file that nothing refuses, with an LVAR section and a whole tree: each record has nlocals - 1 names.
+-- A file that nothing refuses, with an LVAR section and a whole tree: each record has a name for each local but one.
 pub file-names : (f : List ℕ) (to : ℕ) → fileReading f .end ≡ ok to
     → let c = fileReading f .it in
     (l : Lvar) → c .lvar ≡ some l → Whole (rlens (recordsOf c)) → (i : ℕ) (d : Rec) → i < length (recordsOf c) → Named (getD (recordsOf c) i d) (getD (namesOf c) i [])

@@ -1,0 +1,264 @@
+-- Demand 1: a load refuses only by 1 to 14, an examination by 1 to 20, follow by 1 to 21, a lookup by 22 alone and fetch by 23 and 24 alone, so no
+-- refusal is 0; and after a refusal every lent table is zero throughout.
+-- Assumes nothing.
+use Prim.Native.Nat.{ℕ, zero, suc, _+_, _-_, _*_, _/_, _≤_}
+use native.Mathlib.Omega.{arith}
+use mathlib.Core.Path.{_≡_, refl, sym, subst}
+use mathlib.Core.Logic.{_⊎_, inl, inr}
+use mathlib.Core.Bool.{false, _&&_, _||_, cond}
+use mathlib.Core.List.{List}
+use lib.Dec.{leb, ltb, eqb, leb→le}
+use lib.Ieee.Fits.{and-l, and-r}
+use lib.ListN.{length, replicate}
+use borrow.Author.Tests.{ne-eqb}
+use Rattle.format.specs.Bytes.{Answer, ok, refused, bind, has, byte}
+use Rattle.format.specs.Rows.{Range, RecordRow, PoolRow, TextRow, textRow}
+use Rattle.format.specs.File.{Content, nothing, fileReading}
+use Rattle.format.specs.Load.{Nine, Words, tablesOf, used, fits, ending, loading, wordsOf, laid, load, recordsOf}
+use Rattle.format.specs.Insn.{kind, known, row, width, fetchAs, fetch}
+use Rattle.format.specs.Lookup as look
+use Rattle.format.specs.Pattern.{Pattern, patternOf}
+use Rattle.format.specs.Exam.{Meets, meets15, meets16, meets17, meets18, meets19, meets20, examinePattern, passing, examining, examine}
+use Rattle.format.specs.Run.{kind as kind-due, choices, following, Followed, follow, laidFrames, frameTable}
+use Rattle.format.proofs.Answers.{ok-refused, either, Refuses, weaker, answered, tested, chained}
+use Rattle.runs.proofs.Refusal.{refusal-met}
+use Rattle.laws.proofs.Endings.{UpTo, reading-ends}
+use Rattle.laws.proofs.Demand3.{choices-21}
+
+-- a number from 1 to hi; so one below 14, or below 20, is one of those that come after
+abbrev pub Among : ℕ → ℕ → Type 0
+Among hi e = (1 ≤ e) × (e ≤ hi)
+
+among : (hi e : ℕ) → UpTo hi e → Among hi e
+among hi e t = (leb→le 1 e (and-l (leb 1 e) (leb e hi) t), leb→le e hi (and-r (leb 1 e) (leb e hi) t))
+
+further : (lo hi e : ℕ) → lo ≤ hi → Among lo e → Among hi e
+further lo hi e h x = let k = x .1 in (x .0, omega arith)
+
+-- every table is zero throughout
+pub record Zero (m : Nine) (w : Words) : Type 0 where
+  pub records : w .records ≡ replicate (m .records) 0
+  pub handlers : w .handlers ≡ replicate (m .handlers) 0
+  pub pool : w .pool ≡ replicate (m .pool) 0
+  pub symbols : w .symbols ≡ replicate (m .symbols) 0
+  pub strings : w .strings ≡ replicate (m .strings) 0
+  pub names : w .names ≡ replicate (m .names) 0
+  pub fileNames : w .fileNames ≡ replicate (m .fileNames) 0
+  pub files : w .files ≡ replicate (m .files) 0
+  pub lines : w .lines ≡ replicate (m .lines) 0
+
+zeros : (n : ℕ) → replicate {A = ℕ} (n - 0) 0 ≡ replicate n 0
+zeros n = let e : n - 0 ≡ n = omega arith in rw e
+
+zero-words : (m : Nine) → Zero m (wordsOf m (tablesOf nothing))
+zero-words m =
+    record {
+      records = zeros (m .records);
+      handlers = zeros (m .handlers);
+      pool = zeros (m .pool);
+      symbols = zeros (m .symbols);
+      strings = zeros (m .strings);
+      names = zeros (m .names);
+      fileNames = zeros (m .fileNames);
+      files = zeros (m .files);
+      lines = zeros (m .lines);
+    }
+
+-- what a refused load or examination leaves
+laid-zero : (m : Nine) (e : ℕ) (a : Answer Content) → laid m a .answer ≡ refused e → Zero m (laid m a .tables)
+laid-zero m e (ok c) q = absurd (ok-refused (sym q))
+laid-zero m e (refused k) q = zero-words m
+
+laid-refuses : (m : Nine) (R : ℕ → Type 0) (a : Answer Content) → Refuses R a → Refuses R (laid m a .answer)
+laid-refuses m R (ok c) r = tt
+laid-refuses m R (refused e) r = r
+
+-- a condition's number
+meets-among : (p : Pattern) (n : ℕ) → Meets p n → Among 20 n
+meets-among p n (meets15 x) = among 20 15 tt
+meets-among p n (meets16 x) = among 20 16 tt
+meets-among p n (meets17 x) = among 20 17 tt
+meets-among p n (meets18 x) = among 20 18 tt
+meets-among p n (meets19 x) = among 20 19 tt
+meets-among p n (meets20 x) = among 20 20 tt
+
+module _ (f : List ℕ) where
+  loading-refuses : (m : Nine) → Refuses (Among 14) (loading f m)
+  unfolding loading ending
+  loading-refuses m =
+      let p = fileReading f in
+      tested _ _ (fits 1024 m (used (tablesOf (p .it)))) _ 14 (among 14 14 tt)
+      (λ _. answered _ _ (Refuses (Among 14)) (p .end) _ _ (reading-ends f) (λ _ _. tt) (λ e r. further 13 14 e (omega arith) (among 13 e r)))
+
+  passing-refuses : (c : Content) → Refuses (Among 20) (passing f c)
+  unfolding passing
+  passing-refuses c = go (examinePattern (patternOf f c)) refl
+    where
+      go : (k : ℕ) → examinePattern (patternOf f c) ≡ k → Refuses (Among 20) (cond (eqb k 0) (ok c) (refused k))
+      go zero e = tt
+      go (suc k) e =
+          let q : eqb (suc k) 0 ≡ false = ne-eqb (suc k) 0 (λ (x : suc k ≡ 0). omega arith) in
+          rw q (meets-among (patternOf f c) (suc k) (refusal-met (patternOf f c) k e))
+
+  module _ (m : Nine) where
+    -- a load's number among those of what comes behind it
+    load-among : (hi : ℕ) → 14 ≤ hi → Refuses (Among hi) (loading f m)
+    load-among hi h = weaker _ _ _ (loading f m) (loading-refuses m) (λ e x. further 14 hi e h x)
+
+    examining-refuses : Refuses (Among 20) (examining f m)
+    unfolding examining
+    examining-refuses = chained _ _ _ (loading f m) (passing f) (load-among 20 (omega arith)) (λ c _. passing-refuses c)
+
+    following-refuses : (n : ℕ) (bs : List ℕ) → Refuses (Among 21) (following f m n bs)
+    unfolding following
+    following-refuses n bs =
+        chained _ _ _ (loading f m) _ (load-among 21 (omega arith)) (λ c _.
+        tested _ _ (leb (length (recordsOf c)) (n / 2)) _ 14 (among 21 14 tt) (λ _.
+        chained _ _ _ (passing f c) _ (weaker _ _ _ (passing f c) (passing-refuses c) (λ e x. further 20 21 e (omega arith) x)) (λ _ _.
+        chained _ _ _ (choices bs) _ (weaker _ _ _ (choices bs) (choices-21 bs kind-due) (λ e x. rw x (among 21 21 tt))) (λ cs _. tt))))
+
+    -- a load
+    pub load-number : (e : ℕ) → load f m .answer ≡ refused e → (1 ≤ e) × (e ≤ 14)
+    unfolding load
+    load-number e q = subst (Refuses (Among 14)) q (laid-refuses m (Among 14) (loading f m) (loading-refuses m))
+
+    pub load-zero : (e : ℕ) → load f m .answer ≡ refused e → Zero m (load f m .tables)
+    unfolding load
+    load-zero e q = laid-zero m e (loading f m) q
+
+    -- an examination
+    pub examine-number : (e : ℕ) → examine f m .answer ≡ refused e → (1 ≤ e) × (e ≤ 20)
+    unfolding examine
+    examine-number e q = subst (Refuses (Among 20)) q (laid-refuses m (Among 20) (examining f m) examining-refuses)
+
+    pub examine-zero : (e : ℕ) → examine f m .answer ≡ refused e → Zero m (examine f m .tables)
+    unfolding examine
+    examine-zero e q = laid-zero m e (examining f m) q
+
+    -- follow
+    pub follow-number : (n : ℕ) (bs : List ℕ) (e : ℕ) → follow f m n bs .answer ≡ refused e → (1 ≤ e) × (e ≤ 21)
+    unfolding follow
+    follow-number n bs e q =
+        subst (Refuses (Among 21)) q
+        (answered _ _ (λ (x : Followed). Refuses (Among 21) (x .answer)) (following f m n bs) _ _ (following-refuses n bs) (λ _ _. tt) (λ _ r. r))
+
+    pub follow-zero : (n : ℕ) (bs : List ℕ) (e : ℕ) → follow f m n bs .answer ≡ refused e
+        → Zero m (follow f m n bs .tables) × (follow f m n bs .frames ≡ replicate n 0)
+    unfolding follow frameTable laidFrames
+    follow-zero n bs e =
+        answered (λ _. Unit {0}) _ (λ (x : Followed). x .answer ≡ refused e → Zero m (x .tables) × (x .frames ≡ replicate n 0)) (following f m n bs) _ _
+        (following-refuses n bs) (λ _ _ q. absurd (ok-refused (sym q))) (λ _ _ _. (zero-words m, let z : n - 2 * 0 ≡ n = omega arith in rw z))
+
+-- a lookup's one number
+abbrev Only22 : {A : Type 0} → Answer A → Type 0
+Only22 x = Refuses (λ e. e ≡ 22) x
+
+record-22 : (t : List ℕ) (r : ℕ) → Only22 (look.recordIn t r)
+unfolding look.recordIn
+record-22 t r = tested _ _ (look.hasRow 19 t r && ltb 0 (look.word 19 t r 0)) _ 22 refl (λ _. tt)
+
+row-22 : (w : ℕ) (t : List ℕ) (g : Range) (i : ℕ) → Only22 (look.rowIn w t g i)
+unfolding look.rowIn
+row-22 w t g i = tested _ _ (ltb i (g .number) && look.hasRow w t (g .first + i)) _ 22 refl (λ _. tt)
+
+rows-22 : (w : ℕ) (t : List ℕ) (g : Range) → Only22 (look.rowsIn w t g)
+unfolding look.rowsIn
+rows-22 w t g = tested _ _ (eqb (g .number) 0 || leb (g .first + g .number) (length t / w)) _ 22 refl (λ _. tt)
+
+bytes-22 : (f : List ℕ) (t : TextRow) → Only22 (look.bytesIn f t)
+unfolding look.bytesIn
+bytes-22 f t = tested _ _ (leb (t .place + t .length) (length f)) _ 22 refl (λ _. tt)
+
+text-22 : (f t : List ℕ) (i : ℕ) → Only22 (look.textIn f t i)
+unfolding look.textIn
+text-22 f t i = tested _ _ (look.hasRow 2 t i) _ 22 refl (λ _. bytes-22 f (look.textRowAt t i))
+
+sized-22 : (n : ℕ) (t : TextRow) (c : look.Constant) → Only22 (look.ofBytes n t c)
+sized-22 n t c = tested _ _ (eqb (t .length) n) _ 22 refl (λ _. tt)
+
+constant-22 : (f : List ℕ) (p : PoolRow) → Only22 (look.constantOf f p)
+unfolding look.constantOf look.constantAt
+constant-22 f p =
+    let k = p .kind in
+    let bytes = textRow (p .place) (p .length) in
+    chained _ _ _ (look.bytesIn f bytes) _ (bytes-22 f bytes) (λ t _.
+    either Only22 (eqb k 0) _ _ (λ _. tt) (λ _.
+    either Only22 (eqb k 2) _ _ (λ _. tt) (λ _.
+    either Only22 (eqb k 1) _ _ (λ _. sized-22 4 t _) (λ _.
+    either Only22 (eqb k 3) _ _ (λ _. sized-22 8 t _) (λ _.
+    either Only22 (eqb k 5) _ _ (λ _. sized-22 8 t _) (λ _.
+    either Only22 (eqb k 7) _ _ (λ _. tt) (λ _. refl)))))))
+
+-- each of the seven, over a file and tables of any contents
+module _ (f t : List ℕ) (r : ℕ) where
+  -- what is made of a record's row, and of row i of those that it names
+  of-record : {A : Type 0} (k : RecordRow → Answer A) → ((x : RecordRow) → Only22 (k x)) → Only22 (bind (look.recordIn t r) k)
+  of-record k h = chained _ _ _ (look.recordIn t r) k (record-22 t r) (λ x _. h x)
+
+  of-row : {A : Type 0} (w : ℕ) (s : List ℕ) (g : Range) (i : ℕ) (k : ℕ → Answer A) → ((j : ℕ) → Only22 (k j)) → Only22 (bind (look.rowIn w s g i) k)
+  of-row w s g i k h = chained _ _ _ (look.rowIn w s g i) k (row-22 w s g i) (λ j _. h j)
+
+  instructions-22 : Only22 (look.instructions f t r)
+  unfolding look.instructions
+  instructions-22 = of-record _ (λ x. bytes-22 f (textRow (x .place) (x .ilen)))
+
+  handler-22 : (h : List ℕ) (i : ℕ) → Only22 (look.handler t h r i)
+  unfolding look.handler
+  handler-22 h i = of-record _ (λ x. of-row 4 h (x .handlers) i _ (λ j. tt))
+
+  pool-22 : (p : List ℕ) (i : ℕ) → Only22 (look.pool f t p r i)
+  unfolding look.pool
+  pool-22 p i = of-record _ (λ x. of-row 3 p (x .pool) i _ (λ j. constant-22 f (look.poolRowAt p j)))
+
+  symbol-22 : (s : List ℕ) (i : ℕ) → Only22 (look.symbol f t s r i)
+  unfolding look.symbol
+  symbol-22 s i = of-record _ (λ x. of-row 2 s (x .symbols) i _ (text-22 f s))
+
+  name-22 : (s n : List ℕ) (i : ℕ) → Only22 (look.name f t s n r i)
+  unfolding look.name look.nameOf
+  name-22 s n i =
+      of-record _ (λ x. of-row 1 n (x .names) i _ (λ j.
+      let index = look.word 1 n j 0 in
+      either Only22 (eqb index 65535) _ _ (λ _. tt) (λ _. chained _ _ _ (look.textIn f s index) _ (text-22 f s index) (λ _ _. tt))))
+
+  debug-file-22 : (n d l : List ℕ) (i : ℕ) → Only22 (look.debugFile f t n d l r i)
+  unfolding look.debugFile look.debugFileOf
+  debug-file-22 n d l i =
+      of-record _ (λ x. of-row 4 d (x .files) i _ (λ j.
+      let y = look.fileRowAt d j in
+      chained _ _ _ (look.textIn f n (y .name)) _ (text-22 f n (y .name)) (λ _ _.
+      chained _ _ _ (look.rowsIn 2 l (y .lines)) _ (rows-22 2 l (y .lines)) (λ _ _. tt))))
+
+  line-22 : (l : List ℕ) (p : ℕ) → Only22 (look.line t l r p)
+  unfolding look.line
+  line-22 l p = of-record _ (λ x. chained _ _ _ (look.rowsIn 2 l (x .lines)) _ (rows-22 2 l (x .lines)) (λ _ _. tt))
+
+  module _ (e : ℕ) where
+    pub instructions-number : look.instructions f t r ≡ refused e → e ≡ 22
+    instructions-number q = subst Only22 q instructions-22
+
+    pub handler-number : (h : List ℕ) (i : ℕ) → look.handler t h r i ≡ refused e → e ≡ 22
+    handler-number h i q = subst Only22 q (handler-22 h i)
+
+    pub pool-number : (p : List ℕ) (i : ℕ) → look.pool f t p r i ≡ refused e → e ≡ 22
+    pool-number p i q = subst Only22 q (pool-22 p i)
+
+    pub symbol-number : (s : List ℕ) (i : ℕ) → look.symbol f t s r i ≡ refused e → e ≡ 22
+    symbol-number s i q = subst Only22 q (symbol-22 s i)
+
+    pub name-number : (s n : List ℕ) (i : ℕ) → look.name f t s n r i ≡ refused e → e ≡ 22
+    name-number s n i q = subst Only22 q (name-22 s n i)
+
+    pub debug-file-number : (n d l : List ℕ) (i : ℕ) → look.debugFile f t n d l r i ≡ refused e → e ≡ 22
+    debug-file-number n d l i q = subst Only22 q (debug-file-22 n d l i)
+
+    pub line-number : (l : List ℕ) (p : ℕ) → look.line t l r p ≡ refused e → e ≡ 22
+    line-number l p q = subst Only22 q (line-22 l p)
+
+-- "Fetch: empty is 24, then 23, then 24."
+pub fetch-number : (c : List ℕ) (e : ℕ) → fetch c ≡ refused e → (e ≡ 23) ⊎ (e ≡ 24)
+unfolding fetch fetchAs
+fetch-number c e q =
+    let k = kind (row (byte c 0)) in
+    subst (Refuses (λ (x : ℕ). (x ≡ 23) ⊎ (x ≡ 24))) q
+    (tested _ _ (has c 0 1) _ 24 (inr refl) (λ _. tested _ _ (known (byte c 0)) _ 23 (inl refl) (λ _. tested _ _ (has c 0 (suc (width k))) _ 24 (inr refl) (λ _. tt))))
