@@ -2,8 +2,7 @@
 -- Assumes nothing.
 use Prim.Native.Nat.{ℕ, zero, suc, _+_, _≤_, _<_}
 use native.Mathlib.Omega.{arith}
-use mathlib.Core.Path.{_≡_, refl, ap}
-use mathlib.Core.List.{List, [], _∷_}
+use mathlib.Core.List.{List}
 use mathlib.Core.Option.{Option, none, some}
 use lib.Dec.{ltb}
 use lib.ListN.{length, getD, drop, length-drop}
@@ -13,10 +12,10 @@ use Rattle.format.specs.Bytes.{refused, has}
 use Rattle.format.specs.Headers.{irep, lvar, dbg, end}
 use Rattle.format.specs.Reading.{Part, part}
 use Rattle.format.specs.Irep.{Rec, irepSection}
-use Rattle.format.specs.Debug.{File}
 use Rattle.format.specs.File.{Content, isMark, once, afterIrep, sectionAt, sections, nothing, majorIs04, fileReading}
-use Rattle.format.specs.Load.{joined, recordsOf, stringsOf, namesOf, fileNamesOf, filesOf, fileRows, Tables, tablesOf}
+use Rattle.format.specs.Load.{joined, recordsOf, stringsOf, namesOf, fileNamesOf, filesOf, Tables, tablesOf}
 use Rattle.format.proofs.Answers.{either, anything, answered}
+use Rattle.format.proofs.Places.{fileRows-length}
 use Rattle.bounds.proofs.Sections.{filesAndLines, lvarSection-rows, debugSection-rows}
 use Rattle.bounds.proofs.Sums.{Sums, no-sums, irepSection-sums}
 
@@ -44,11 +43,6 @@ Keeps n p = Counts n (p .it)
 -- before any section
 no-counts : (n : ℕ) → Counts n nothing
 no-counts n = record { irep = no-sums n; lvar = omega arith; dbg = omega arith }
-
--- a row for each debug file
-fileRows-length : (n : ℕ) (fs : List File) → length (fileRows n fs) ≡ length fs
-fileRows-length n [] = refl
-fileRows-length n (f ∷ fs) = ap suc (fileRows-length (n + length (f .lines)) fs)
 
 -- 65,536 records of 65,535 rows are below 2 ^ 32
 pub counts-bounds : (c : Content) → Counts 65536 c → Bounds (tablesOf c)

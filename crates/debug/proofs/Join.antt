@@ -2,7 +2,7 @@
 -- Assumes nothing.
 use Prim.Native.Nat.{ℕ, zero, suc, _+_, _-_, _*_, _≤_, _<_}
 use native.Mathlib.Omega.{arith}
-use mathlib.Core.Path.{_≡_, refl, sym, ap}
+use mathlib.Core.Path.{_≡_, refl, sym}
 use mathlib.Core.Bool.{Bool, true, false, cond}
 use mathlib.Core.List.{List, [], _∷_, _++_, append-assoc, append-nil}
 use mathlib.Core.Option.{Option, none, some}
@@ -19,7 +19,7 @@ use Rattle.format.specs.Lvar.{plainText}
 use Rattle.format.specs.Packed.{keeps}
 use Rattle.format.specs.Debug.{FileHead, fileHead, mapEntry, after, goesOn, mapLines, fileLines, File, filesFrom, debugRecord, Debug, debugContent, debugSection}
 use Rattle.format.specs.Load.{joined, mapOfFiles, start, recordRows, fileRows, Nine}
-use Rattle.format.proofs.Places.{joined-append, joined-snoc, gathered-append, record-word, files-put}
+use Rattle.format.proofs.Places.{fileRows-length, joined-append, joined-snoc, gathered-append, record-word, files-put}
 use Rattle.rows.specs.declared.Rows.the-variants as rows
 use Rattle.rows.specs.Table.{Out, out, rowCount, putOf, times}
 use Rattle.rows.specs.Rows.{stringOf}
@@ -83,10 +83,6 @@ rows-snoc n (g ∷ fs) f =
     let e : n + length (g .lines) + length (mapOfFiles fs) ≡ n + length (mapOfFiles (g ∷ fs)) = rw length-append (omega arith) in
     rw (rows-snoc (n + length (g .lines)) fs f, e)
 
-rows-count : (n : ℕ) (fs : List File) → length (fileRows n fs) ≡ length fs
-rows-count n [] = refl
-rows-count n (f ∷ fs) = ap suc (rows-count (n + length (f .lines)) fs)
-
 map-snoc : (fs : List File) (f : File) → mapOfFiles (fs ++ f ∷ []) ≡ mapOfFiles fs ++ f .lines
 map-snoc fs f = rw (gathered-append (λ x. x .lines) fs (f ∷ []), append-nil)
 
@@ -131,7 +127,7 @@ module _ (s : List ℕ) (names mf ml : ℕ) where
     put-file : (at : ℕ) → putOf at (length fs) (tableOf fileWords mf (fileRows 0 fs)) (fileWords (fileRow 0 fs file))
         ≡ out (rows.Next at (length (fs ++ file ∷ []))) (tableOf fileWords mf (fileRows 0 (fs ++ file ∷ [])))
     put-file at =
-        let n = rows-count 0 fs in
+        let n = fileRows-length 0 fs in
         let l : length (fileRows 0 fs ++ fileRow 0 fs file ∷ []) ≡ length (fs ++ file ∷ []) = rw (length-append, length-append, n) in
         rw (rows-snoc 0 fs file) (rw (l, n) at (put-there fileWords 4 (λ _. refl) (omega arith) mf (fileRows 0 fs) (fileRow 0 fs file) at (omega arith)))
 
@@ -167,7 +163,7 @@ module _ (s : List ℕ) (names mf ml : ℕ) where
       Goal = FilesRan fs (filesFrom s names (suc n) last at) (filesOf s names (suc n) last (here at fs))
 
       whole : length (tableOf fileWords mf (fileRows 0 fs)) ≡ mf
-      whole = length-table fileWords 4 (λ _. refl) (omega arith) mf (fileRows 0 fs) (omega (arith, rows-count 0 fs, room .files))
+      whole = length-table fileWords 4 (λ _. refl) (omega arith) mf (fileRows 0 fs) (omega (arith, fileRows-length 0 fs, room .files))
 
       by-file : (h : FileHead) (free : length fs < rowCount mf 4) → fileHead s names last at ≡ ok h → ltb (length fs) (rowCount mf 4) ≡ true → Later → FileRan h fs room free → Goal
       by-file h free q b ih (Ran.went a p x d) =

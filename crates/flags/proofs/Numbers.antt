@@ -1,21 +1,17 @@
 -- The digits of an opcode byte: at a byte, above 118, and each of them.
 -- Assumes nothing.
-use Prim.Native.Nat.{ℕ, zero, suc, _/_, _%_, _≤_, _<_}
+use Prim.Native.Nat.{ℕ, _/_, _%_, _<_}
 use native.Mathlib.Omega.{arith}
 use mathlib.Core.Path.{_≡_, refl, sym, ap, _∙_}
 use mathlib.Core.Bool.{Bool, true, false}
 use borrow.Author.Tests.{le-ltb}
 use Rattle.format.specs.Insn.{Role, reg, pool, sym as symbol, child, plain, Flow, on, ends, jumps, may, kind, flow, row, size}
 use Rattle.runs.proofs.Table.{width-small}
-use Rattle.opcode.proofs.Rows.{NoneOf}
+use Rattle.opcode.proofs.Rows.{NoneOf, not-below}
 use Rattle.flags.specs.Digits.{roleNumber, flagInside, flagLast, firstRole, secondRole, rowDigits, instruction, digitsOf}
 
 pub at : {b k : ℕ} → b ≡ k → digitsOf k ≡ digitsOf b
 at e = ap digitsOf (sym e)
-
-not-below : (n b : ℕ) → NoneOf n b → n ≤ b
-not-below zero b h = omega arith
-not-below (suc n) b h = omega (arith, not-below n b (h .0), h .1)
 
 pub above : {b : ℕ} → NoneOf 119 b → 0 ≡ digitsOf b
 above {b} h = rw (le-ltb b 119 (not-below 119 b h))

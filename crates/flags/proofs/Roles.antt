@@ -14,6 +14,7 @@ use Rattle.format.specs.Insn.{Role, reg, pool, sym as symbol, child, plain, Row
 use Rattle.format.specs.Pattern.{Record}
 use Rattle.format.specs.Exam.{below, allBelow, operandsBelow}
 use Rattle.format.proofs.Table.{both, by-test}
+use Rattle.runs.proofs.Jumps.{if-so}
 use Rattle.flags.specs.Digits.{roleNumber, firstRole, secondRole}
 use Rattle.flags.specs.Flags.{Limits, bare, roleAt, operandBelow, Operand, Looked, flagAt}
 use Rattle.flags.proofs.Numbers.{role-small, size-digit, first-digit, second-digit, inside-digit, last-digit}
@@ -142,10 +143,6 @@ second-in r = not (numbers (secondRole r)) || leb 2 (width (kind r))
 second-in-all : (b : ℕ) → T (second-in (row b))
 unfolding second-in numbers table row
 second-in-all b = by-test second-in tt b
-
-if-so : (a b : Bool) → T (not a || b) → T a → T b
-if-so true b t u = t
-if-so false b t u = absurd u
 
 -- the test of an operand that is there, and of one that is not
 pub below-limit : {l : List ℕ} → Limits l → (x v : ℕ) → x < 5 → v < 256 → ltb v (getD l x 0) ≡ below (bare l []) (roleAt x) v

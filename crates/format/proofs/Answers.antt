@@ -1,10 +1,12 @@
--- Laws of answers and of tests: what holds of the value that was answered, or of the number of the refusal.
+-- Laws of answers, of tests and of rows in turn: what holds of the value that was answered, or of the number of the refusal.
 -- Assumes nothing.
-use Prim.Native.Nat.{ℕ}
+use Prim.Native.Nat.{ℕ, zero, suc}
 use native.Mathlib.Omega.{arith}
-use mathlib.Core.Path.{_≡_, refl}
+use mathlib.Core.Path.{_≡_, refl, ap}
 use mathlib.Core.Bool.{Bool, true, false, cond}
-use Rattle.format.specs.Bytes.{Answer, ok, refused, bind, onAnswer}
+use lib.ListN.{length}
+use Rattle.format.specs.Bytes.{Answer, ok, refused, bind, onAnswer, Step}
+use Rattle.format.specs.Reading.{more, inTurn}
 
 -- an answer is a value or a refusal, not both
 pub ok-refused : {A : Type 0} {a : A} {e : ℕ} → refused e ≡ ok a → ⊥
@@ -59,3 +61,13 @@ module _ {A : Type 0} (P : A → Type 0) (R : ℕ → Type 0) where
   pub chained : {B : Type 0} (Q : B → Type 0) (x : Answer B) (k : B → Answer A) → Holds Q R x → ((b : B) → Q b → Holds P R (k b)) → Holds P R (bind x k)
   chained Q (ok b) k q h = h b q
   chained Q (refused e) k q h = q
+
+-- n rows in turn that nothing refuses are n
+pub inTurn-all : {R : Type 0} (p : ℕ → Answer (Step R)) (n at to : ℕ) → inTurn p n at .end ≡ ok to → length (inTurn p n at .rows) ≡ n
+inTurn-all p zero at to e = refl
+inTurn-all p (suc n) at to e = go (p at) e (inTurn-all p n)
+  where
+    go : (a : Answer (Step _)) → more a (inTurn p n) .end ≡ ok to
+        → ((at to : ℕ) → inTurn p n at .end ≡ ok to → length (inTurn p n at .rows) ≡ n) → length (more a (inTurn p n) .rows) ≡ suc n
+    go (ok s) e ih = ap suc (ih (s .next) to e)
+    go (refused k) e ih = absurd (ok-refused e)

@@ -1,16 +1,20 @@
--- Where rows stand in a table, and a row of a table replaced; so a record's row, once its names or its debug files are known.
+-- The part of a file from a place on. Where rows stand in a table, and a row of a table replaced; so a record's row, once its names or its debug
+-- files are known.
 -- Assumes nothing.
 use Prim.Native.Nat.{ℕ, zero, suc, _+_, _-_, _*_, _≤_, _<_}
-use native.Mathlib.Nat.{suc-mul, zero-mul}
+use native.Mathlib.Nat.{suc-mul, zero-mul, le-of-eq}
 use native.Mathlib.Omega.{arith}
 use mathlib.Core.Path.{_≡_, refl, sym, ap, _∙_}
 use mathlib.Core.List.{List, [], _∷_, _++_, append-assoc, append-nil}
-use lib.ListN.{length, getD, drop, set, replicate, length-append, length-set, List·getD-append}
-use lib.Seq.{sets, set-append-left, getD-append-add, drop-nil, drop-at}
+use lib.ListN.{length, getD, take, drop, set, replicate, length-append, length-drop, length-set, List·getD-append}
+use lib.Seq.{take-all, sets, set-append-left, getD-append-add, drop-nil, drop-at}
 use Rattle.format.specs.Rows.{range, recordWords, NameRow, flat, tableOf}
 use Rattle.format.specs.Irep.{Rec}
 use Rattle.format.specs.Debug.{File}
-use Rattle.format.specs.Load.{joined, gathered, mapOfFiles, Before, past, recordRow, recordRows}
+use Rattle.format.specs.Load.{joined, gathered, mapOfFiles, Before, past, recordRow, recordRows, fileRows}
+
+pub part-is : (f : List ℕ) (at : ℕ) → take (length f - at) (drop at f) ≡ drop at f
+part-is f at = take-all (length f - at) (drop at f) (le-of-eq (length-drop at f))
 
 -- lists joined, and what is gathered from a list, one behind another
 pub joined-append : {A : Type 0} (xs ys : List (List A)) → joined (xs ++ ys) ≡ joined xs ++ joined ys
@@ -100,6 +104,11 @@ rows-split (q ∷ qs) rs b nss fss =
 pub rows-length : (rs : List Rec) (b : Before) (nss : List (List NameRow)) (fss : List (List File)) → length (recordRows b rs nss fss) ≡ length rs
 rows-length [] b nss fss = refl
 rows-length (r ∷ rs) b nss fss = ap suc (rows-length rs (past b r (getD nss 0 []) (getD fss 0 [])) (drop 1 nss) (drop 1 fss))
+
+-- and one for each debug file
+pub fileRows-length : (n : ℕ) (fs : List File) → length (fileRows n fs) ≡ length fs
+fileRows-length n [] = refl
+fileRows-length n (f ∷ fs) = ap suc (fileRows-length (n + length (f .lines)) fs)
 
 -- without names, or without debug files, a record's row does not depend on how many of them stand before it
 abbrev named : ℕ → Before → Before

@@ -1,10 +1,10 @@
--- `rowsFrom` as a list: its length and its elements; and so the rows of a lent line table.
+-- `rowsFrom` as a list: its length, its elements and its map; and so the rows of a lent line table.
 -- Assumes nothing.
 use Prim.Native.Nat.{ℕ, zero, suc, _+_, _/_, _<_}
 use native.Mathlib.Nat.{le-of-suc-le-suc, add-zero, add-suc, suc-add, zero-add}
 use native.Mathlib.Omega.{arith}
 use mathlib.Core.Path.{_≡_, refl, ap, _∙_}
-use mathlib.Core.List.{List}
+use mathlib.Core.List.{List, _∷_, map}
 use lib.ListN.{length, getD}
 use Rattle.format.specs.Rows.{lineRow}
 use Rattle.format.specs.Line.{entry, rowsFrom, lineRowAt, mapOf}
@@ -20,6 +20,11 @@ module _ {R : Type 0} (f : ℕ → R) where
   rowsFrom-at i zero j d h = absurd (omega arith)
   rowsFrom-at i (suc n) zero d h = rw add-zero
   rowsFrom-at i (suc n) (suc j) d h = rw (add-suc, ← suc-add) (rowsFrom-at (suc i) n j d (le-of-suc-le-suc h))
+
+  pub rowsFrom-map : {B : Type 0} (g : R → B) (i n : ℕ) → map g (rowsFrom f i n) ≡ rowsFrom (λ (j : ℕ). g (f j)) i n
+  unfolding rowsFrom
+  rowsFrom-map g i zero = refl
+  rowsFrom-map g i (suc n) = ap (λ (l : List _). g (f i) ∷ l) (rowsFrom-map g (suc i) n)
 
 -- a line table has an entry for every two words
 pub map-length : (t : List ℕ) → length (mapOf t) ≡ length t / 2

@@ -8,12 +8,13 @@ use native.Mathlib.Omega.{arith}
 use native.Mathlib.Nat.{add-zero, add-assoc}
 use lib.Dec.{leb, ltb, eqb}
 use lib.ListN.{length, take, drop, length-drop}
-use lib.Seq.{take-all, getD-drop}
+use lib.Seq.{getD-drop}
 use borrow.Author.Tests.{le-leb, lt-leb, eqb-false}
 use Rattle.format.specs.Bytes.{has, u32At}
 use Rattle.format.specs.Headers.{irepHeader, recordHeader}
 use Rattle.format.specs.Irep.{Head, headAt}
 use Rattle.format.proofs.Answers.{either}
+use Rattle.format.proofs.Places.{part-is}
 use Rattle.headers.specs.declared.SectionIrepHeaderRead.{SectionIrepHeaderRead}
 use Rattle.headers.specs.declared.IrepRecordRead.{IrepRecordRead}
 use Rattle.headers.specs.Headers.{sectionIrepHeaderOf, irepRecordOf}
@@ -27,10 +28,6 @@ use Rattle.irep.specs.Record.{headOfBytes, Lent, Run, run, onContent, bo
 
 nothing : 1 ≤ 0 → ⊥
 nothing p = omega arith
-
--- the part of a file from a place on
-pub part-is : (f : List ℕ) (at : ℕ) → take (length f - at) (drop at f) ≡ drop at f
-part-is f at = take-all (length f - at) (drop at f) (rw length-drop (omega arith))
 
 -- a record's 16 bytes that are there
 pub head-bytes : (f : List ℕ) (at : ℕ) (r : IrepRecordRead) → at + 16 ≤ length f → r ≡ irepRecordOf (recordHeader (take (length f - at) (drop at f))) → headOfBytes (r .header) ≡ headAt f at

@@ -18,8 +18,8 @@ use Rattle.format.specs.File.{Content}
 use Rattle.format.specs.Load.{Nine, Words, recordsOf, stringsOf, namesOf, fileNamesOf, filesOf, mapOfFiles, fileRows, tablesOf, wordsOf, loading, load}
 use Rattle.format.specs.Line.{lineAt, rowsFrom, lineRowAt}
 use Rattle.format.specs.Lookup.{word, fileRowAt, recordRowAt, hasRow, recordIn, bytesIn, textIn, instructions, handler, Constant, text, big, int, float, constantAt, constantOf, pool, symbol, nameOf, name, DebugFile, debugFileOf, debugFile, line}
-use Rattle.format.proofs.Places.{rows-length}
-use Rattle.layout.proofs.Own.{Own, OwnFile, Owns, owns, table-row, fileRows-length}
+use Rattle.format.proofs.Places.{rows-length, fileRows-length}
+use Rattle.layout.proofs.Own.{Own, OwnFile, Owns, owns, table-row}
 use Rattle.layout.proofs.Ends.{Each}
 use Rattle.layout.proofs.Inside.{TextInside, NameInside, FileInside, Known, string, static-string, int32, int64, float64, big-integer, PoolInside, Inside, loading-inside, Held, loading-held}
 use Rattle.layout.proofs.Back.{table-zero, has-row, row-in, row-past, rows-in, record-back, text-back, file-back, handler-back, pool-back, name-back, lines-back}

@@ -21,8 +21,8 @@ use Rattle.format.specs.Debug.{Debug, debugSection}
 use Rattle.format.specs.File.{Content, content, isMark, endSection, once, afterIrep, sectionAt, fileReading}
 use Rattle.format.specs.Load.{recordsOf, namesOf}
 use Rattle.format.specs.Tree.{total, Whole}
-use Rattle.format.proofs.Answers.{ok-refused}
-use Rattle.layout.proofs.Ends.{inTurn-all, reading-keeps}
+use Rattle.format.proofs.Answers.{ok-refused, inTurn-all}
+use Rattle.layout.proofs.Ends.{reading-keeps}
 
 -- the children's numbers, of each record
 abbrev pub rlens : List Rec → List ℕ

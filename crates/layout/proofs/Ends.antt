@@ -3,7 +3,7 @@
 use Prim.Native.Nat.{ℕ, zero, suc, _+_, _≤_, _<_}
 use native.Mathlib.Nat.{le-of-suc-le-suc}
 use native.Mathlib.Omega.{arith}
-use mathlib.Core.Path.{_≡_, refl, ap}
+use mathlib.Core.Path.{_≡_, refl}
 use mathlib.Core.Bool.{Bool, true, false, cond}
 use mathlib.Core.List.{List, [], _∷_}
 use lib.Dec.{ltb}
@@ -43,16 +43,6 @@ module _ {A : Type 0} (P : A → Type 0) where
       go : (a : Answer (Step A)) → Answers (λ s. P (s .it)) a → ((at : ℕ) → Each P (inTurn p n at .rows)) → Each P (more a (inTurn p n) .rows)
       go (ok s) y ih = each-more (s .it) (inTurn p n (s .next) .rows) y (ih (s .next))
       go (refused e) y ih = each-none
-
--- n rows in turn that nothing refuses are n
-pub inTurn-all : {R : Type 0} (p : ℕ → Answer (Step R)) (n at to : ℕ) → inTurn p n at .end ≡ ok to → length (inTurn p n at .rows) ≡ n
-inTurn-all p zero at to e = refl
-inTurn-all p (suc n) at to e = go (p at) e (inTurn-all p n)
-  where
-    go : (a : Answer (Step _)) → more a (inTurn p n) .end ≡ ok to
-        → ((at to : ℕ) → inTurn p n at .end ≡ ok to → length (inTurn p n at .rows) ≡ n) → length (more a (inTurn p n) .rows) ≡ suc n
-    go (ok s) e ih = ap suc (ih (s .next) to e)
-    go (refused k) e ih = absurd (ok-refused e)
 
 -- what holds of a part, or of the rows of a reading, that ended well
 abbrev pub Good : {A : Type 0} → (A → Type 0) → Part A → Type 0

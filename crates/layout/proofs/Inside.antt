@@ -22,8 +22,8 @@ use Rattle.format.specs.Debug.{FileHead, above, fileHead, fileLines, File, file
 use Rattle.format.specs.File.{Content, isMark, once, afterIrep, sectionAt, nothing, fileReading}
 use Rattle.format.specs.Load.{Nine, recordsOf, stringsOf, namesOf, fileNamesOf, filesOf, tablesOf, used, fits, ending, loading}
 use Rattle.format.proofs.Table.{both}
-use Rattle.format.proofs.Answers.{ok-refused, either, Answers, tested, chained}
-use Rattle.layout.proofs.Ends.{bind-ok, andThen-ok, Each, each-none, each-more, inTurn-each, inTurn-all, Good, GoodRows, reading-keeps, reading-small}
+use Rattle.format.proofs.Answers.{ok-refused, either, Answers, tested, chained, inTurn-all}
+use Rattle.layout.proofs.Ends.{bind-ok, andThen-ok, Each, each-none, each-more, inTurn-each, Good, GoodRows, reading-keeps, reading-small}
 
 -- bytes inside a file of n bytes
 abbrev pub TextInside : ℕ → TextRow → Type 0

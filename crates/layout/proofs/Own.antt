@@ -16,7 +16,7 @@ use Rattle.format.specs.Irep.{Rec}
 use Rattle.format.specs.Debug.{File}
 use Rattle.format.specs.File.{Content}
 use Rattle.format.specs.Load.{joined, gathered, recordsOf, namesOf, filesOf, mapOfFiles, Before, start, past, recordRow, recordRows, fileRows, Tables, tablesOf}
-use Rattle.format.proofs.Places.{gathered-append, word-at}
+use Rattle.format.proofs.Places.{gathered-append, word-at, fileRows-length}
 
 -- the rows of the table t that the range g names are the list l
 pub record Own {A : Type 0} (t : List A) (g : Range) (l : List A) : Type 0 where
@@ -108,11 +108,7 @@ pub row-at : (c : Content) (i : ℕ) → i < length (recordsOf c) → (d : Rec) 
     → getD (tablesOf c .records) i D ≡ recordRow (before i (recordsOf c) (namesOf c) (filesOf c)) (getD (recordsOf c) i d) (getD (namesOf c) i []) (getD (filesOf c) i [])
 row-at c i h d D = row-from start (recordsOf c) (namesOf c) (filesOf c) i h d D ∙ simp zero-add
 
--- a row for each debug file, and the rows of files behind others
-pub fileRows-length : (n : ℕ) (fs : List File) → length (fileRows n fs) ≡ length fs
-fileRows-length n [] = refl
-fileRows-length n (f ∷ fs) = ap suc (fileRows-length (n + length (f .lines)) fs)
-
+-- the rows of files behind others
 fileRows-append : (n : ℕ) (xs ys : List File) → fileRows n (xs ++ ys) ≡ fileRows n xs ++ fileRows (n + length (mapOfFiles xs)) ys
 fileRows-append n [] ys = rw add-zero
 fileRows-append n (x ∷ xs) ys =

@@ -2,20 +2,21 @@
 -- Assumes nothing.
 use Prim.Native.Nat.{ℕ, zero, suc, _+_, _-_, _*_, _≤_}
 use native.Mathlib.Omega.{arith}
-use mathlib.Core.Path.{_≡_, refl, sym, ap}
+use mathlib.Core.Path.{_≡_, refl, sym}
 use mathlib.Core.Bool.{Bool, true, false, cond}
 use mathlib.Core.List.{List, [], _∷_, _++_, append-assoc, append-nil}
 use lib.Dec.{eqb, leb}
 use lib.ListN.{length, length-append}
 use Rattle.format.specs.Bytes as bytes
-use Rattle.format.specs.Bytes.{Answer, ok, refused, Step, has, u32At}
-use Rattle.format.specs.Reading.{Read, Part, part, more, add, andThen, inTurn}
+use Rattle.format.specs.Bytes.{Answer, ok, refused, has, u32At}
+use Rattle.format.specs.Reading.{Read, Part, part, add, andThen, inTurn}
 use Rattle.format.specs.Rows.{TextRow, NameRow, recordWords, textWords, nameWords, tableOf}
 use Rattle.format.specs.Irep.{Rec}
 use Rattle.format.specs.Walk as format
 use Rattle.format.specs.Lvar.{Lvar, plainText, nameEntry, recordNames, lvarSection}
 use Rattle.format.specs.Debug.{File}
 use Rattle.format.specs.Load.{joined, start, recordRows, Nine}
+use Rattle.format.proofs.Answers.{inTurn-all}
 use Rattle.format.proofs.Places.{joined-append, joined-snoc, record-word, names-put}
 use Rattle.rows.specs.declared.Rows.the-variants as rows
 use Rattle.rows.specs.Table.{out, rowCount, firstOf, times}
@@ -25,16 +26,6 @@ use Rattle.rows.proofs.Join.{Ran, RowsRan, times-ran, string-agrees, name-agree
 use Rattle.lvar.specs.declared.Lvar.the-variants as lvar
 use Rattle.lvar.specs.Names.{Tables, State, state, nlocalsOf, rlenOf, putNames, withNames, lvStep, lvKids, never}
 use Rattle.lvar.specs.Section.{Filled, filled, endOf, walked, lvarOf}
-
--- what went on has all its rows
-turned : {R : Type 0} (p : ℕ → Answer (Step R)) (n at a : ℕ) → inTurn p n at .end ≡ ok a → length (inTurn p n at .rows) ≡ n
-turned p zero at a e = refl
-turned {R = R} p (suc n) at a e = by-row (p at) (turned p n) e
-  where
-    by-row : (g : Answer (Step R)) → ((at a : ℕ) → inTurn p n at .end ≡ ok a → length (inTurn p n at .rows) ≡ n)
-        → more g (inTurn p n) .end ≡ ok a → length (more g (inTurn p n) .rows) ≡ suc n
-    by-row (ok s) ih h = ap suc (ih (s .next) a h)
-    by-row (refused k) ih h = absurd (let z : _≡_ {A = ℕ} 0 1 = cc in omega arith)
 
 -- the walk, with so many words for the records and for the names
 module _ (f : List ℕ) (strings m k : ℕ) (fss : List (List File)) where
@@ -115,7 +106,7 @@ module _ (f : List ℕ) (strings m k : ℕ) (fss : List (List File)) where
       by-names ih (Ran.went a p x d) =
           let ns = names .rows in
           let l : length nss + 1 ≡ length (nss ++ ns ∷ []) = sym (length-append nss (ns ∷ [])) in
-          let stepped : lvStep f strings st ≡ go (here all (nss ++ ns ∷ []) a) = rw (step-is, d, put-is ns n (turned (nameEntry f strings) n at a p), l, joined-snoc nss ns) in
+          let stepped : lvStep f strings st ≡ go (here all (nss ++ ns ∷ []) a) = rw (step-is, d, put-is ns n (inTurn-all (nameEntry f strings) n at a p), l, joined-snoc nss ns) in
           rw (run-is, read-is, stepped, p) (rw append-assoc at (ih a (rw (joined-snoc nss ns) x)))
       by-names ih (Ran.stop c p x d) = rw (run-is, read-is, step-is, d, p) (Ran.stop c refl (rw (joined-snoc nss (names .rows)) x) (_, refl))
       by-names ih (Ran.full x d) =

@@ -19,7 +19,7 @@ abbrev pub NoneOf : ℕ → ℕ → Type 0
 NoneOf zero b = Unit {0}
 NoneOf (suc n) b = NoneOf n b × (b ≡ n → ⊥)
 
-not-below : (n b : ℕ) → NoneOf n b → n ≤ b
+pub not-below : (n b : ℕ) → NoneOf n b → n ≤ b
 not-below zero b h = omega arith
 not-below (suc n) b h = omega (arith, not-below n b (h .0), h .1)
 

@@ -2,9 +2,9 @@
 -- Assumes nothing.
 use Prim.Native.Nat.{ℕ, zero, suc, _+_, _<_}
 use native.Mathlib.Omega.{arith}
-use mathlib.Core.Path.{_≡_, refl, ap, _∙_}
+use mathlib.Core.Path.{_≡_, refl, _∙_}
 use mathlib.Core.Bool.{Bool, true, false, cond}
-use mathlib.Core.List.{List, [], _∷_}
+use mathlib.Core.List.{List, []}
 use mathlib.Core.Option.{Option, none, some}
 use lib.Dec.{eqb, ltb}
 use lib.ListN.{length, getD, drop}
@@ -17,7 +17,7 @@ use Rattle.format.specs.Irep.{Rec, irepSection}
 use Rattle.format.specs.Lvar.{Lvar, lvarSection}
 use Rattle.format.specs.Debug.{File, Debug, debugSection}
 use Rattle.format.specs.File.{Content, content, nothing, isMark, majorIs04, once, afterIrep, endSection, sectionAt, sections, fileReading}
-use Rattle.format.specs.Load.{Nine, Words, tablesOf, wordsOf, recordsOf, namesOf, filesOf, joined, fileRows, start, used, fits, ending, loading, load}
+use Rattle.format.specs.Load.{Nine, Words, tablesOf, wordsOf, recordsOf, namesOf, filesOf, joined, start, used, fits, ending, loading, load}
 use Rattle.rows.specs.Table.{rowCount}
 use Rattle.rows.proofs.Join.{Ran, length-table}
 use Rattle.irep.specs.Record.{irepOf}
@@ -29,7 +29,7 @@ use Rattle.debug.proofs.Join as debug
 use Rattle.debug.proofs.Join.{debug-ran}
 use Rattle.debug.specs.Section.{debugOf}
 use Rattle.bounds.proofs.Bounds.{reading-bounds}
-use Rattle.format.proofs.Places.{rows-length}
+use Rattle.format.proofs.Places.{rows-length, fileRows-length}
 use Rattle.bounds.proofs.Grows.{Ordered, Less, same, Grown, section-grows, sections-grow}
 use Rattle.rite.proofs.Fits.{Room, room-less, fits-true, fits-false}
 use Rattle.sections.specs.declared.Used.{Used}
@@ -62,11 +62,6 @@ usedIn c =
       files = length (joined (filesOf c));
       lines = length (t .lines);
     }
-
--- a row for each debug file
-length-files : (n : ℕ) (fs : List File) → length (fileRows n fs) ≡ length fs
-length-files n [] = refl
-length-files n (f ∷ fs) = ap suc (length-files _ fs)
 
 abbrev progressOf : Content → Progress
 progressOf c = record { irep = isSome (c .irep); lvar = isSome (c .lvar); dbg = isSome (c .dbg); used = usedIn c }
@@ -171,7 +166,7 @@ module _ (limit : ℕ) (m : Nine) (f : List ℕ) (at : ℕ) where
     dbg-room x =
         let e = rows-length rs start nss [] in
         let e′ = rows-length rs start nss (Q .it .files) in
-        let g = length-files 0 (joined (Q .it .files)) in
+        let g = fileRows-length 0 (joined (Q .it .files)) in
         record {
           limited = omega (arith, r .limited);
           records = omega (arith, r .records);
@@ -190,7 +185,7 @@ module _ (limit : ℕ) (m : Nine) (f : List ℕ) (at : ℕ) where
     unfolding dbgOutOf
     dbg-run (Ran.went size e x g) = rw (counted (content (some rs) l none) r, g) (Ran.went size e (dbg-room x) refl)
     dbg-run (Ran.stop k e x g) = rw (counted (content (some rs) l none) r, g) (Ran.stop k e (dbg-room x) refl)
-    dbg-run (Ran.full x g) = rw (counted (content (some rs) l none) r, g) (Ran.full (λ z. x (z .fileNames, omega (arith, z .files, length-files 0 (joined (Q .it .files))), z .lines)) refl)
+    dbg-run (Ran.full x g) = rw (counted (content (some rs) l none) r, g) (Ran.full (λ z. x (z .fileNames, omega (arith, z .files, fileRows-length 0 (joined (Q .it .files))), z .lines)) refl)
 
   dbg-section : (i : Option (List Rec)) (l : Option Lvar) (d : Option Debug) → Ordered i l d → Room limit m (content i l d)
       → SectionRan (afterIrep (content i l d) (λ rs. once d (content i l d) (let s = debugSection (drop at f) at rs in part (content i l (some (s .it))) (s .end))))
@@ -314,6 +309,6 @@ module _ (m : Nine) (f : List ℕ) (bytes : (i : ℕ) → getD f i 0 < 256) wher
   load-is = by-run (file-ran 1024 m f)
     where
       by-run : FileRan 1024 m f p o → load f m ≡ onLoaded (o .ans) (λ u. loadedOf (loaded-is.Rows u) (o .tables)) (λ e. loadedOf (loaded-is.Refused e) (wordsOf m (tablesOf nothing)))
-      by-run (Ran.went at e x d) = rw d (is-loaded at e (fits-true 1024 m (p .it) x) ∙ rw (rows-length (recordsOf (p .it)) start (namesOf (p .it)) (filesOf (p .it)), length-files 0 (joined (filesOf (p .it)))))
+      by-run (Ran.went at e x d) = rw d (is-loaded at e (fits-true 1024 m (p .it) x) ∙ rw (rows-length (recordsOf (p .it)) start (namesOf (p .it)) (filesOf (p .it)), fileRows-length 0 (joined (filesOf (p .it)))))
       by-run (Ran.stop k e x d) = rw d (is-refused k e (fits-true 1024 m (p .it) x))
       by-run (Ran.full x d) = rw d (is-full (fits-false 1024 m (p .it) (omega arith) (reading-bounds f bytes) x))

@@ -23,7 +23,8 @@ use Rattle.exam.specs.View.{codeAt, entries, recordAt, patternAt, rlensAt, RowF
 use Rattle.moves.specs.Part.{partAt}
 use Rattle.run.specs.Frames.{framesOf, Held}
 use Rattle.moves.proofs.Moves.{move-part}
-use Rattle.run.proofs.View.{pattern-length, record-is, rlens-are}
+use Rattle.exam.proofs.Join.{rlens-are}
+use Rattle.run.proofs.View.{pattern-length, record-is}
 use Rattle.run.proofs.Tables.{push, pop, frames-cons, frames-none}
 use Rattle.run.proofs.Tables as tables
 

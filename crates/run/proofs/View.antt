@@ -1,23 +1,18 @@
--- The pattern that the lent tables hold, by its records and rlens; and the part of the line table that the code takes.
+-- The pattern that the lent tables hold, by its records; and the part of the line table that the code takes.
 -- Assumes nothing.
 use Prim.Native.Nat.{ℕ, zero, suc, _+_, _-_, _*_, _/_, _≤_, _<_}
 use native.Mathlib.Nat.{add-zero, zero-add}
 use native.Mathlib.Omega.{arith}
-use mathlib.Core.Path.{_≡_, refl, ap, _∙_}
+use mathlib.Core.Path.{_≡_, refl, _∙_}
 use mathlib.Core.Option.{Option}
-use mathlib.Core.List.{List, _∷_, map}
+use mathlib.Core.List.{List}
 use lib.ListN.{length, getD, take, drop, length-drop}
 use lib.Seq.{length-take-le, getD-take, getD-drop}
 use Rattle.format.specs.Line.{rowsFrom, lineRowAt, mapOf, lineAt}
 use Rattle.format.specs.Lookup.{word}
-use Rattle.format.specs.Pattern.{Record, blank, recAt, rlens}
+use Rattle.format.specs.Pattern.{blank, recAt}
 use Rattle.format.proofs.RowsFrom.{rowsFrom-length, rowsFrom-at}
-use Rattle.exam.specs.View.{entries, recordAt, patternAt, rlensAt}
-
-rowsFrom-map : {A B : Type 0} (f : ℕ → A) (g : A → B) (i n : ℕ) → map g (rowsFrom f i n) ≡ rowsFrom (λ (j : ℕ). g (f j)) i n
-unfolding rowsFrom
-rowsFrom-map f g i zero = refl
-rowsFrom-map f g i (suc n) = ap (λ (l : List _). g (f i) ∷ l) (rowsFrom-map f g (suc i) n)
+use Rattle.exam.specs.View.{entries, recordAt, patternAt}
 
 -- rows that are alike one by one
 rowsFrom-same : {A : Type 0} (f g : ℕ → A) (i k n : ℕ) → ((j : ℕ) → j < n → f (i + j) ≡ g (k + j)) → rowsFrom f i n ≡ rowsFrom g k n
@@ -37,9 +32,6 @@ module _ (f recs hs ls : List ℕ) (n : ℕ) where
 
   pub record-is : (r : ℕ) → r < n → recAt (patternAt f recs hs ls n) r ≡ recordAt f recs hs ls r
   record-is r h = rw zero-add at (rowsFrom-at (recordAt f recs hs ls) 0 n r blank h)
-
-  pub rlens-are : rlens (patternAt f recs hs ls n) ≡ rlensAt recs n
-  rlens-are = rowsFrom-map (recordAt f recs hs ls) (λ (r : Record). r .rlen) 0 n
 
 -- the part of the line table that is a record's map
 pub map-is : (ls : List ℕ) (i n : ℕ) → (i + n) * 2 ≤ length ls → mapOf (take ((i + n) * 2 - i * 2) (drop (i * 2) ls)) ≡ entries ls i n

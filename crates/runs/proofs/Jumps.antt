@@ -35,7 +35,7 @@ jump-all : (b : ℕ) → T (jump-test (row b))
 unfolding jump-test jumpKind table row
 jump-all b = by-test jump-test tt b
 
-if-so : (a b : Bool) → T (not a || b) → T a → T b
+pub if-so : (a b : Bool) → T (not a || b) → T a → T b
 if-so true b t u = t
 if-so false b t u = absurd u
 

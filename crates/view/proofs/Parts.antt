@@ -1,11 +1,10 @@
 -- The parts that `part` and `fetch_in` cut are those of the definitions.
 -- Assumes nothing.
 use Prim.Native.Nat.{ℕ, _+_, _-_, _≤_, _<_}
-use native.Mathlib.Nat.{add-sub-cancel-left, le-of-eq}
+use native.Mathlib.Nat.{add-sub-cancel-left}
 use mathlib.Core.Path.{_≡_}
 use mathlib.Core.List.{List, []}
-use lib.ListN.{length, take, drop, length-drop, drop-of-length-le}
-use lib.Seq.{take-all}
+use lib.ListN.{length, take, drop, drop-of-length-le}
 use borrow.Author.Tests.{le-leb, lt-leb}
 use Rattle.format.specs.Bytes.{refused}
 use Rattle.format.specs.Insn.{fetch}
@@ -19,10 +18,7 @@ pub inside : (f : List ℕ) (place size : ℕ) → place + size ≤ length f →
 unfolding partOf
 inside f place size h = rw (le-leb (place + size) (length f) h, add-sub-cancel-left)
 
--- no byte is left, and all that are left
+-- no byte is left
 pub none-left : (c : List ℕ) (at : ℕ) → length c ≤ at → refused 24 ≡ fetch (drop at c)
 unfolding fetch
 none-left c at h = rw (drop-of-length-le c h)
-
-pub all-left : (c : List ℕ) (at : ℕ) → take (length c - at) (drop at c) ≡ drop at c
-all-left c at = take-all (length c - at) (drop at c) (le-of-eq (length-drop at c))

@@ -6,7 +6,7 @@ use Rattle.format.specs.File.{endSection}
 use lib.ListN.{drop}
 use Rattle.marks.specs.Answers.{sizeOf}
 use Rattle.sections.specs.Sections.{endOutOf}
-use Rattle.sections.proofs.Laws.{part-is}
+use Rattle.format.proofs.Places.{part-is}
 use borrow.Author.Needs.{needs}
 use Rattle.sections.proofs.end_at.Statement.{statement}
 use Rattle.sections.proofs.end_at.Tie as tie

@@ -1,7 +1,7 @@
 -- `sections::irep_at` meets its contract.
 -- Assumes nothing.
 use Rattle.sections.specs.Sections.{irepOutOf}
-use Rattle.sections.proofs.Laws.{part-is}
+use Rattle.format.proofs.Places.{part-is}
 use borrow.Author.Needs.{needs}
 use Rattle.sections.proofs.irep_at.Statement.{statement}
 use Rattle.sections.proofs.irep_at.Tie as tie

@@ -6,7 +6,8 @@ use mathlib.Core.List.{List}
 use lib.ListN.{drop}
 use borrow.Author.Needs.{needs}
 use Rattle.format.specs.Insn.{fetch}
-use Rattle.view.proofs.Parts.{none-left, all-left}
+use Rattle.format.proofs.Places.{part-is}
+use Rattle.view.proofs.Parts.{none-left}
 use Rattle.view.proofs.fetch_in.Statement.{statement}
 use Rattle.view.proofs.fetch_in.Tie as tie
 
@@ -16,7 +17,7 @@ returns c = none-left (c .before .part .result .now) (c .before .before .before 
 returns-2 : tie.Need-returns-2
 returns-2 c =
     c .fetch .ensures
-    ∙ ap fetch (all-left (c .before .before .before .part .result .now) (c .before .before .before .before .before .args .at))
+    ∙ ap fetch (part-is (c .before .before .before .part .result .now) (c .before .before .before .before .before .args .at))
     ∙ ap (λ (l : List ℕ). fetch (drop (c .before .before .before .before .before .args .at) l)) (c .before .before .before .part .ensures)
 
 pub fetch-in-spec : {M : Type 1} → statement M
