@@ -1,4 +1,4 @@
--- What a caller in C reads in the field `refusal`: of every answer whose refusals are 1 or more it is 0 exactly where the answer is no refusal.
+-- What a caller in C reads in the field `refusal`: of every answer that is not refused by 0, it is 0 exactly where the answer is no refusal.
 -- Assumes nothing.
 use Prim.Native.Nat.{ℕ, _≤_}
 use native.Mathlib.Omega.{arith}
@@ -11,14 +11,14 @@ use Rattle.format.specs.Insn.{Insn}
 use Rattle.format.specs.Load.{Nine}
 use Rattle.format.specs.Lookup.{Constant, text, big, int, float, DebugFile}
 use Rattle.format.specs.Run.{Standing, finished, stands}
-use Rattle.format.proofs.Answers.{ok-refused, Refuses}
+use Rattle.format.proofs.Answers.{ok-refused}
 use Rattle.boundary.specs.Structs.{fetchedIs, loadedIs, textIs, handlerIs, valueIs, constantIs, nameIs, debugFileIs, lookedLineIs, standingIs, followedIs}
 
--- no refusal is 0
+-- it is not refused by 0
 abbrev pub NotZero : {A : Type 0} → Answer A → Type 0
-NotZero x = Refuses (λ e. 1 ≤ e) x
+NotZero x = (e : ℕ) → x ≡ refused e → 1 ≤ e
 
--- the answer is no refusal
+-- it is no refusal
 abbrev pub Passes : {A : Type 0} → Answer A → Type 0
 Passes {A = A} x = (a : A) × (x ≡ ok a)
 
@@ -26,7 +26,8 @@ Passes {A = A} x = (a : A) × (x ≡ ok a)
 module _ {A : Type 0} (field : Answer A → ℕ) (passed : (a : A) → field (ok a) ≡ 0) (number : (e : ℕ) → field (refused e) ≡ e) where
   zero-iff : (x : Answer A) → NotZero x → (field x ≡ 0) ↔ Passes x
   zero-iff (ok a) h = (λ _. (a, refl), λ _. passed a)
-  zero-iff (refused e) h = (λ z. let k : e ≡ 0 = sym (number e) ∙ z in absurd (omega arith), λ y. absurd (ok-refused (y .1)))
+  zero-iff (refused e) h =
+      (λ z. let k : e ≡ 0 = sym (number e) ∙ z in let g = h e refl in absurd (omega arith), λ y. absurd (ok-refused (y .1)))
 
 pub loaded-zero : (x : Answer Nine) → NotZero x → (loadedIs x .refusal ≡ 0) ↔ Passes x
 loaded-zero = zero-iff (λ x. loadedIs x .refusal) (λ _. refl) (λ _. refl)

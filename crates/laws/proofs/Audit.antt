@@ -11,18 +11,22 @@ use lib.Dec.{leb, ltb}
 use lib.ListN.{length, getD, List·getD-eq-default}
 use borrow.Author.Tests.{leb-true, leb-false, le-leb, lt-ltb, ne-eqb}
 use Rattle.format.specs.Bytes.{Answer, ok, refused, int32At, int64At, float64At}
-use Rattle.format.specs.Rows.{Range, RecordRow, recordWords, HandlerRow, handlerWords, PoolRow, poolWords, TextRow, textRow, textWords, NameRow, nameWords, FileRow, fileWords, lineWords, tableOf}
+use Rattle.format.specs.Rows.{Range, RecordRow, recordWords, HandlerRow, handlerWords, PoolRow, poolWords, TextRow, textRow, textWords, NameRow}
+use Rattle.format.specs.Rows.{nameWords, FileRow, fileWords, lineWords, tableOf}
 use Rattle.format.specs.Irep.{Rec}
 use Rattle.format.specs.Debug.{File}
 use Rattle.format.specs.File.{Content}
 use Rattle.format.specs.Load.{Nine, Words, recordsOf, stringsOf, namesOf, fileNamesOf, filesOf, mapOfFiles, fileRows, tablesOf, wordsOf, loading, load}
 use Rattle.format.specs.Line.{lineAt, rowsFrom, lineRowAt}
-use Rattle.format.specs.Lookup.{word, fileRowAt, recordRowAt, hasRow, recordIn, bytesIn, textIn, instructions, handler, Constant, text, big, int, float, constantAt, constantOf, pool, symbol, nameOf, name, DebugFile, debugFileOf, debugFile, line}
+use Rattle.format.specs.Lookup.{word, fileRowAt, recordRowAt, hasRow, recordIn, bytesIn, textIn, instructions, handler, Constant, text, big, int}
+use Rattle.format.specs.Lookup.{float, constantAt, constantOf, pool, symbol, nameOf, name, DebugFile, debugFileOf, debugFile, line}
 use Rattle.format.proofs.Places.{rows-length, fileRows-length}
 use Rattle.layout.proofs.Own.{Own, OwnFile, Owns, owns, table-row}
 use Rattle.layout.proofs.Ends.{Each}
-use Rattle.layout.proofs.Inside.{TextInside, NameInside, FileInside, Known, string, static-string, int32, int64, float64, big-integer, PoolInside, Inside, loading-inside, Held, loading-held}
-use Rattle.layout.proofs.Back.{table-zero, has-row, row-in, row-past, rows-in, record-back, text-back, file-back, handler-back, pool-back, name-back, lines-back}
+use Rattle.layout.proofs.Inside.{TextInside, NameInside, FileInside, Known, string, static-string, int32, int64, float64, big-integer, PoolInside}
+use Rattle.layout.proofs.Inside.{Inside, loading-inside, Held, loading-held}
+use Rattle.layout.proofs.Back.{table-zero, has-row, row-in, row-past, rows-in, record-back, text-back, file-back, handler-back, pool-back, name-back}
+use Rattle.layout.proofs.Back.{lines-back}
 
 -- the nine tables of m words each after a load that read c
 abbrev pub held : Nine → Content → Words

@@ -1,4 +1,5 @@
--- The counts that bound the definitions' recursions never run out: what ends a reading that nothing refuses is what paper 01 says.
+-- The counts that bound the definitions' recursions never run out before what is read does: a reading that nothing refuses ends where paper 01
+-- says.
 -- Assumes nothing.
 use Prim.Native.Nat.{ℕ, _+_, _≤_, _<_}
 use native.Mathlib.Omega.{arith}

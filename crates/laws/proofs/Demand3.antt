@@ -136,14 +136,15 @@ module _ (f : List ℕ) (x : FilePasses f) where
         others = λ m n bs l h no-list. others-21 f c e0 m n bs l h no-list;
       }
 
--- "Each set of tables in which F loads": what a file holds is the same in all tables in which it loads
+-- what was read of a file is the same in all tables in which it loads
 pub loads-same : (f : List ℕ) (m m′ : Nine) (c c′ : Content) → loading f m ≡ ok c → loading f m′ ≡ ok c′ → c ≡ c′
 loads-same f m m′ c c′ e e′ = sym (loading-reading f m c e .0) ∙ loading-reading f m′ c′ e′ .0
 
--- so what is claimed of follow is claimed over any tables in which a passing file loads
-pub follow-anywhere : (f : List ℕ) → FilePasses f → (cs : List Choice) (m : Nine) (c : Content) → loading f m ≡ ok c
-    → (n : ℕ) → length (recordsOf c) ≤ n / 2 → (bs : List ℕ) → choices bs ≡ ok cs → FollowHolds f c (run (patternOf f c) cs) m n bs
-follow-anywhere f x cs m c e n h bs q =
-    let same = loads-same f (x .tables) m (x .content) c (x .loads) e in
-    let claim = subst (λ (d : Content). Claim f d cs) same (demand3 f x cs) in
-    claim .follows m n bs e h q
+-- so the whole claim is about what any tables hold in which a file that passes loads
+module _ (f : List ℕ) (x : FilePasses f) (m : Nine) (c : Content) (e : loading f m ≡ ok c) (cs : List Choice) where
+  pub claim-anywhere : Claim f c cs
+  claim-anywhere = subst (λ (d : Content). Claim f d cs) (loads-same f (x .tables) m (x .content) c (x .loads) e) (demand3 f x cs)
+
+  -- and what it says of follow is about a call over any of them
+  pub follow-anywhere : (n : ℕ) (bs : List ℕ) → length (recordsOf c) ≤ n / 2 → choices bs ≡ ok cs → FollowHolds f c (run (patternOf f c) cs) m n bs
+  follow-anywhere n bs h q = claim-anywhere .follows m n bs e h q

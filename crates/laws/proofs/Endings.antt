@@ -1,4 +1,4 @@
--- How reading ends, whatever is read: behind where it began, at a place that paper 01 tells, or by a number from 1 to 13.
+-- How each reading ends: at a place behind the one where it began, which is where paper 01 says, or by a number from 1 to 13.
 -- Assumes nothing.
 use Prim.Native.Nat.{ℕ, zero, suc, _+_, _-_, _≤_, _<_}
 use native.Mathlib.Omega.{arith}

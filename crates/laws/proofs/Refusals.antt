@@ -1,7 +1,8 @@
 -- Demand 1: a load refuses only by 1 to 14, an examination by 1 to 20, follow by 1 to 21, a lookup by 22 alone and fetch by 23 and 24 alone, so no
 -- refusal is 0; and after a refusal every lent table is zero throughout.
 -- Assumes nothing.
-use Prim.Native.Nat.{ℕ, zero, suc, _+_, _-_, _*_, _/_, _≤_}
+use Prim.Native.Nat.{ℕ, zero, suc, _+_, _/_, _≤_}
+use native.Mathlib.Nat.{sub-zero}
 use native.Mathlib.Omega.{arith}
 use mathlib.Core.Path.{_≡_, refl, sym, subst}
 use mathlib.Core.Logic.{_⊎_, inl, inr}
@@ -19,13 +20,13 @@ use Rattle.format.specs.Insn.{kind, known, row, width, fetchAs, fetch}
 use Rattle.format.specs.Lookup as look
 use Rattle.format.specs.Pattern.{Pattern, patternOf}
 use Rattle.format.specs.Exam.{Meets, meets15, meets16, meets17, meets18, meets19, meets20, examinePattern, passing, examining, examine}
-use Rattle.format.specs.Run.{kind as kind-due, choices, following, Followed, follow, laidFrames, frameTable}
+use Rattle.format.specs.Run.{kind as due-kind, choices, following, Followed, follow, laidFrames, frameTable}
 use Rattle.format.proofs.Answers.{ok-refused, either, Refuses, weaker, answered, tested, chained}
 use Rattle.runs.proofs.Refusal.{refusal-met}
 use Rattle.laws.proofs.Endings.{UpTo, reading-ends}
 use Rattle.laws.proofs.Demand3.{choices-21}
 
--- a number from 1 to hi; so one below 14, or below 20, is one of those that come after
+-- a number from 1 to hi, by its test; and a number among fewer is among more
 abbrev pub Among : ℕ → ℕ → Type 0
 Among hi e = (1 ≤ e) × (e ≤ hi)
 
@@ -47,21 +48,18 @@ pub record Zero (m : Nine) (w : Words) : Type 0 where
   pub files : w .files ≡ replicate (m .files) 0
   pub lines : w .lines ≡ replicate (m .lines) 0
 
-zeros : (n : ℕ) → replicate {A = ℕ} (n - 0) 0 ≡ replicate n 0
-zeros n = let e : n - 0 ≡ n = omega arith in rw e
-
 zero-words : (m : Nine) → Zero m (wordsOf m (tablesOf nothing))
 zero-words m =
     record {
-      records = zeros (m .records);
-      handlers = zeros (m .handlers);
-      pool = zeros (m .pool);
-      symbols = zeros (m .symbols);
-      strings = zeros (m .strings);
-      names = zeros (m .names);
-      fileNames = zeros (m .fileNames);
-      files = zeros (m .files);
-      lines = zeros (m .lines);
+      records = rw sub-zero;
+      handlers = rw sub-zero;
+      pool = rw sub-zero;
+      symbols = rw sub-zero;
+      strings = rw sub-zero;
+      names = rw sub-zero;
+      fileNames = rw sub-zero;
+      files = rw sub-zero;
+      lines = rw sub-zero;
     }
 
 -- what a refused load or examination leaves
@@ -115,7 +113,7 @@ module _ (f : List ℕ) where
         chained _ _ _ (loading f m) _ (load-among 21 (omega arith)) (λ c _.
         tested _ _ (leb (length (recordsOf c)) (n / 2)) _ 14 (among 21 14 tt) (λ _.
         chained _ _ _ (passing f c) _ (weaker _ _ _ (passing f c) (passing-refuses c) (λ e x. further 20 21 e (omega arith) x)) (λ _ _.
-        chained _ _ _ (choices bs) _ (weaker _ _ _ (choices bs) (choices-21 bs kind-due) (λ e x. rw x (among 21 21 tt))) (λ cs _. tt))))
+        chained _ _ _ (choices bs) _ (weaker _ _ _ (choices bs) (choices-21 bs due-kind) (λ e x. rw x (among 21 21 tt))) (λ cs _. tt))))
 
     -- a load
     pub load-number : (e : ℕ) → load f m .answer ≡ refused e → (1 ≤ e) × (e ≤ 14)
@@ -147,7 +145,7 @@ module _ (f : List ℕ) where
     unfolding follow frameTable laidFrames
     follow-zero n bs e =
         answered (λ _. Unit {0}) _ (λ (x : Followed). x .answer ≡ refused e → Zero m (x .tables) × (x .frames ≡ replicate n 0)) (following f m n bs) _ _
-        (following-refuses n bs) (λ _ _ q. absurd (ok-refused (sym q))) (λ _ _ _. (zero-words m, let z : n - 2 * 0 ≡ n = omega arith in rw z))
+        (following-refuses n bs) (λ _ _ q. absurd (ok-refused (sym q))) (λ _ _ _. (zero-words m, rw sub-zero))
 
 -- a lookup's one number
 abbrev Only22 : {A : Type 0} → Answer A → Type 0

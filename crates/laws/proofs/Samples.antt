@@ -19,8 +19,10 @@ use Rattle.format.specs.Load.{Nine, fits, ending, loading, load}
 use Rattle.format.specs.Line.{halve, lineAt, rising}
 use Rattle.format.specs.Tree.{layout, whole, span, childOf}
 use Rattle.format.specs.Pattern.{Record, patternOf, reach, lands}
-use Rattle.format.specs.Exam.{FilePasses, readable, below, allBelow, operandsBelow, follows, firstAt, firstOf, exam16, exam1718, exam19, exam20, examineRecord, examineAll, examinePattern, passing, examining, examine}
-use Rattle.format.specs.Run.{Choice, frame, go-on, caught, leave, childOperand, move, oneStep, runFrom, choicesFrom, choices, finished, stands, standing, laidFrames, frameTable, following, follow}
+use Rattle.format.specs.Exam.{FilePasses, readable, below, allBelow, operandsBelow, follows, firstAt, firstOf, exam16, exam1718, exam19, exam20}
+use Rattle.format.specs.Exam.{examineRecord, examineAll, examinePattern, passing, examining, examine}
+use Rattle.format.specs.Run.{Choice, frame, go-on, caught, leave, childOperand, move, oneStep, runFrom, choicesFrom, choices, finished, stands}
+use Rattle.format.specs.Run.{standing, laidFrames, frameTable, following, follow}
 use Rattle.format.specs.Claim.{Claim}
 use Rattle.runs.proofs.Refusal.{passes-iff}
 use Rattle.laws.proofs.Demand3.{demand3}
