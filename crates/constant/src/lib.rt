@@ -67,19 +67,19 @@ fn float64(f: &[u8], place: u32, len: u32) -> PoolAnswer
 }
 
 // The constant that a pool row's words say.
-pub fn constant_of(f: &[u8], kind: u32, place: u32, length: u32) -> PoolAnswer
-    ensures { λ r. ⌜ poolOf r ≡ format.constantOf (now (f .entry)) (poolRow kind place length) ⌝ }
+pub fn constant_of(f: &[u8], kind: u32, place: u32, len: u32) -> PoolAnswer
+    ensures { λ r. ⌜ poolOf r ≡ format.constantOf (now (f .entry)) (poolRow kind place len) ⌝ }
 {
-    if f.len() < (place as usize) + (length as usize) {
+    if f.len() < (place as usize) + (len as usize) {
         return PoolAnswer::Refused(22);
     }
     match kind {
-        0 => PoolAnswer::Value(PoolValue::Text { place, length }),
-        1 => int32(f, place, length),
-        2 => PoolAnswer::Value(PoolValue::Text { place, length }),
-        3 => int64(f, place, length),
-        5 => float64(f, place, length),
-        7 => PoolAnswer::Value(PoolValue::Big { place, length }),
+        0 => PoolAnswer::Value(PoolValue::Text { place, length: len }),
+        1 => int32(f, place, len),
+        2 => PoolAnswer::Value(PoolValue::Text { place, length: len }),
+        3 => int64(f, place, len),
+        5 => float64(f, place, len),
+        7 => PoolAnswer::Value(PoolValue::Big { place, length: len }),
         _ => PoolAnswer::Refused(22),
     }
 }

@@ -71,13 +71,13 @@ pub fn record_row(records: &[u32], rec: u32, k: usize, rows: usize, index: u32) 
 }
 
 // Bytes of the file.
-pub fn bytes_in(f: &[u8], place: u32, length: u32) -> TextAnswer
-    ensures { λ r. ⌜ textOf r ≡ format.bytesIn (now (f .entry)) (textRow place length) ⌝ }
+pub fn bytes_in(f: &[u8], place: u32, len: u32) -> TextAnswer
+    ensures { λ r. ⌜ textOf r ≡ format.bytesIn (now (f .entry)) (textRow place len) ⌝ }
 {
-    if f.len() < (place as usize) + (length as usize) {
+    if f.len() < (place as usize) + (len as usize) {
         return TextAnswer::Refused(22);
     }
-    TextAnswer::At { place, length }
+    TextAnswer::At { place, length: len }
 }
 
 // Row i of a table of texts.

@@ -11,11 +11,11 @@ use Rattle.ranges.proofs.bytes_in.Tie as tie
 
 returns : tie.Need-returns
 unfolding bytesIn
-returns c = rw (lt-leb (c .before .args .place + c .before .args .«length») (length (c .before .args .f .now)) (omega (arith, c .if1 .taken)))
+returns c = let a = c .before .args in rw (lt-leb (a .place + a .len) (length (a .f .now)) (omega (arith, c .if1 .taken)))
 
 returns-2 : tie.Need-returns-2
 unfolding bytesIn
-returns-2 c = rw (le-leb (c .before .args .place + c .before .args .«length») (length (c .before .args .f .now)) (omega (arith, c .if1 .left)))
+returns-2 c = let a = c .before .args in rw (le-leb (a .place + a .len) (length (a .f .now)) (omega (arith, c .if1 .left)))
 
 pub bytes-in-spec : {M : Type 1} → statement M
 bytes-in-spec = tie.close (tie.spec (λ c. search needs) returns returns-2)
