@@ -1,2 +1,3 @@
 pub mod FirstByte
 pub mod Halving
+pub mod Sums

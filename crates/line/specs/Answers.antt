@@ -6,6 +6,8 @@ use Rattle.format.specs.Bytes.{Answer, ok, refused, Step, step}
 use Rattle.format.specs.Rows.{LineRow, lineRow}
 use Rattle.line.specs.declared.Packed.{Packed}
 use Rattle.line.specs.declared.Packed.the-variants as packed
+use Rattle.line.specs.declared.Deltas.{Deltas}
+use Rattle.line.specs.declared.Deltas.the-variants as deltas
 use Rattle.line.specs.declared.Entry.{Entry}
 use Rattle.line.specs.declared.Entry.the-variants as entry
 use Rattle.line.specs.declared.LastLine.{LastLine}
@@ -17,6 +19,11 @@ use Rattle.line.specs.declared.LineAt.the-variants as found
 abbrev pub packedOf : Packed → Answer (Step ℕ)
 packedOf (packed.Value value next) = ok (step value next)
 packedOf (packed.Refused code) = refused code
+
+-- the deltas of position and line, and the place after them
+abbrev pub deltasOf : Deltas → Answer (Step (ℕ × ℕ))
+deltasOf (deltas.By pos line next) = ok (step (pos .0, line .0) next)
+deltasOf (deltas.Refused code) = refused code
 
 -- an entry's position and line, and the place after it
 abbrev pub entryOf : Entry → Answer (Step LineRow)

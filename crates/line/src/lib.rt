@@ -3,7 +3,8 @@ ghost use mathlib.Core.Path.{_≡_};
 ghost use Prim.Native.Nat.{_+_, _*_, _%_};
 ghost use Rattle.format.specs.Packed.{wrap, packedFrom, packed, packedEntry, keeps};
 ghost use Rattle.format.specs.Line.{lineAt, mapOf};
-ghost use Rattle.line.specs.Answers.{packedOf, entryOf, lastOf, lineOf};
+ghost use Rattle.line.specs.Answers.{packedOf, deltasOf, entryOf, lastOf, lineOf};
+ghost use Rattle.line.specs.Deltas.{packedDeltas};
 
 // A position: an instruction's offset in its record.
 pub struct Pos(pub u32);
@@ -11,9 +12,25 @@ pub struct Pos(pub u32);
 // A line of a source file.
 pub struct Line(pub u32);
 
+// What a packed map's entry adds to the position before it.
+pub struct PosDelta(pub u32);
+
+// What a packed map's entry adds to the line before it.
+pub struct LineDelta(pub u32);
+
 // A packed number and the place after it, or the refusal's number.
 pub enum Packed {
     Value { value: u32, next: usize },
+    Refused(u8),
+}
+
+// The deltas of a packed map's entry and the place after them, or the refusal's number.
+enum Deltas {
+    By {
+        pos: PosDelta,
+        line: LineDelta,
+        next: usize,
+    },
     Refused(u8),
 }
 
@@ -93,22 +110,58 @@ pub fn decode_packed_int(head: &[u8], cur: usize) -> Packed
     packed_from(head, cur, 5)
 }
 
-// The entry of a packed map at a place, after the entry with a position and a line: both sums wrap.
+impl Pos {
+    // The position that is a delta further: the sum wraps.
+    fn plus(self, delta: PosDelta) -> Pos
+        ensures { λ r. ⌜ r .0 ≡ wrap (self .0 + delta .0) ⌝ }
+    {
+        Pos(std::num::wrapping_add_u32(self.0, delta.0))
+    }
+}
+
+impl Line {
+    // The line that is a delta further: the sum wraps.
+    fn plus(self, delta: LineDelta) -> Line
+        ensures { λ r. ⌜ r .0 ≡ wrap (self .0 + delta .0) ⌝ }
+    {
+        Line(std::num::wrapping_add_u32(self.0, delta.0))
+    }
+}
+
+// The pair of packed deltas at a place: the position's, then the line's.
+fn packed_deltas(head: &[u8], cur: usize) -> Deltas
+    ensures { λ r. ⌜ deltasOf r ≡ packedDeltas (now (head .entry)) cur ⌝ }
+{
+    match decode_packed_int(head, cur) {
+        Packed::Refused(code) => Deltas::Refused(code),
+        Packed::Value { value: first, next } => match decode_packed_int(head, next) {
+            Packed::Refused(code) => Deltas::Refused(code),
+            Packed::Value {
+                value: second,
+                next: end,
+            } => Deltas::By {
+                pos: PosDelta(first),
+                line: LineDelta(second),
+                next: end,
+            },
+        },
+    }
+}
+
+// The entry of a packed map at a place, after the entry with a position and a line.
 pub fn packed_entry(head: &[u8], cur: usize, pos: Pos, line: Line) -> Entry
     ensures { λ r. ⌜ entryOf r ≡ packedEntry (now (head .entry)) cur (pos .0) (line .0) ⌝ }
 {
-    match decode_packed_int(head, cur) {
-        Packed::Refused(code) => Entry::Refused(code),
-        Packed::Value { value, next } => match decode_packed_int(head, next) {
-            Packed::Refused(code) => Entry::Refused(code),
-            Packed::Value {
-                value: delta,
-                next: end,
-            } => Entry::At {
-                pos: Pos(std::num::wrapping_add_u32(pos.0, value)),
-                line: Line(std::num::wrapping_add_u32(line.0, delta)),
-                next: end,
-            },
+    match packed_deltas(head, cur) {
+        Deltas::Refused(code) => Entry::Refused(code),
+        Deltas::By {
+            pos: pos_delta,
+            line: line_delta,
+            next,
+        } => Entry::At {
+            pos: pos.plus(pos_delta),
+            line: line.plus(line_delta),
+            next,
         },
     }
 }

@@ -4,4 +4,4 @@ use Rattle.format.specs.Rows.{LineRow, lineRow}
 use Rattle.linemap.specs.declared.Before.{Before}
 
 abbrev pub beforeOf : Before → LineRow
-beforeOf b = lineRow (b .pos) (b .line .0)
+beforeOf b = lineRow (b .pos .0) (b .line .0)

@@ -20,10 +20,13 @@ ghost use Rattle.rows.specs.Table.{out};
 ghost use Rattle.linemap.specs.Answers.{beforeOf};
 ghost use Rattle.linemap.specs.Lines.{lineRun, firstBefore, pushOf, lineOf, linesOf};
 
-// What the next entry of a map goes by: the line of the entry before it, and its position; of kind 0 the position that comes next, which may be
-// one above the highest.
+// The position that the next entry of a map goes by: that of the entry before it; of kind 0 the one that comes next, which may be one above the
+// highest.
+struct NextPos(u64);
+
+// What the next entry of a map goes by: a position, and the line of the entry before it.
 struct Before {
-    pos: u64,
+    pos: NextPos,
     line: Line,
 }
 
@@ -59,12 +62,11 @@ fn line_ary_entry(s: &[u8], before: Before, at: usize) -> Entry
     if rest(s, at) < 2 {
         return Entry::Refused(7);
     }
-    let pos = before.pos;
-    if 4294967295 < pos {
+    if 4294967295 < before.pos.0 {
         return Entry::Refused(13);
     }
     Entry::At {
-        pos: Pos(pos as u32),
+        pos: Pos(before.pos.0 as u32),
         line: Line(u16_in(s, at) as u32),
         next: at + 2,
     }
@@ -88,7 +90,7 @@ fn flat_map_entry(s: &[u8], before: Before, at: usize) -> Entry
 fn packed_map_entry(s: &[u8], before: Before, at: usize) -> Entry
     ensures { λ r. ⌜ entryOf r ≡ mapEntry (now (s .entry)) 2 (beforeOf before) at ⌝ }
 {
-    let pos = Pos((before.pos % 4294967296) as u32);
+    let pos = Pos((before.pos.0 % 4294967296) as u32);
     let line = before.line;
     packed_entry(s, at, pos, line)
 }
@@ -110,9 +112,15 @@ fn after_entry(kind: u32, pos: Pos, line: Line) -> Before
 {
     let p = wide(pos.0);
     if kind == 0 {
-        return Before { pos: p + 1, line };
+        return Before {
+            pos: NextPos(p + 1),
+            line,
+        };
     }
-    Before { pos: p, line }
+    Before {
+        pos: NextPos(p),
+        line,
+    }
 }
 
 // What a file's first entry goes by: of kind 0 the file's start, else 0.
@@ -122,11 +130,14 @@ fn first_before(kind: u32, start: Pos) -> Before
     let line = Line(0);
     if kind == 0 {
         return Before {
-            pos: wide(start.0),
+            pos: NextPos(wide(start.0)),
             line,
         };
     }
-    Before { pos: 0, line }
+    Before {
+        pos: NextPos(0),
+        line,
+    }
 }
 
 // Whether a map of so many bytes or entries goes on at a place: kind 2 goes by the bytes.

@@ -12,11 +12,13 @@ returns c = rw (← c .before .rest .ensures, lt-leb _ _ (c .if1 .taken))
 
 returns-2 : tie.Need-returns-2
 unfolding mapEntry
-returns-2 c = rw (← c .before .before .rest .ensures, le-leb _ _ (c .before .if1 .left), lt-ltb _ _ (c .if2 .taken))
+returns-2 c = rw (← c .before .before .before .rest .ensures, le-leb _ _ (c .before .before .if1 .left), lt-ltb _ _ (c .if2 .taken))
 
 returns-3 : tie.Need-returns-3
 unfolding mapEntry
-returns-3 c = rw (← c .before .before .before .rest .ensures, le-leb _ _ (c .before .before .if1 .left), le-ltb _ _ (c .before .if2 .left), c .u16-in .ensures)
+returns-3 c =
+    let b = c .before .before in
+    rw (← b .before .before .before .rest .ensures, le-leb _ _ (b .before .before .if1 .left), le-ltb _ _ (b .if2 .left), c .u16-in .ensures)
 
 pub line-ary-entry-spec : {M : Type 1} → statement M
 line-ary-entry-spec =
