@@ -1,4 +1,4 @@
--- Paper 01's starred samples, as one table of the definitions, with some that it does not star.
+-- Paper 01's starred samples, as one table of the definitions, with some that it does not star; and sample A as a file that passes.
 -- Assumes nothing.
 use Prim.Native.Nat.{ℕ}
 use mathlib.Core.Path.{_≡_, refl}
