@@ -11,8 +11,8 @@
    another. Slices that are only read may be shared.
 
    Stack. No theorem bounds it. blotheath_load and blotheath_load_records need at most 448 KiB of stack, blotheath_examine and blotheath_follow
-   at most 512 KiB, every other call 4 KiB: a chain of 1,024 records is the deepest, and the host's tests run it in threads of that stack. Other
-   files need 8 KiB for a load, and 80 KiB for an examination or a run.
+   at most 512 KiB, every other call 4 KiB: a chain of 1,024 records is the deepest, and the host's tests run it in threads of that stack. What a
+   compiler writes needs far less, some 8 KiB for a load and 80 KiB for an examination or a run, with half a KiB for each level of nesting.
 
    Refusals. 0 is none, and no refusal is 0.
     1  the file has more than 65,536 bytes
