@@ -12,7 +12,7 @@
 
    Stack. No theorem bounds it. blotheath_load and blotheath_load_records need at most 448 KiB of stack, blotheath_examine and blotheath_follow
    at most 512 KiB, every other call 4 KiB: a chain of 1,024 records is the deepest, and the host's tests run it in threads of that stack. What a
-   compiler writes needs far less, some 8 KiB for a load and 80 KiB for an examination or a run, with half a KiB for each level of nesting.
+   compiler writes needs far less: some 8 KiB for a load, 80 KiB for an examination or a run, and half a KiB for each level of nesting.
 
    Refusals. 0 is none, and no refusal is 0.
     1  the file has more than 65,536 bytes
@@ -31,7 +31,7 @@
    13  a line's position is above 4294967295
    14  a row that is needed has no place in its lent table, or is behind the 1,024th record; in blotheath_follow also fewer rows of frames than
        the file has records
-   15  the records are not one whole tree
+   15  the records are not one whole tree by their numbers of children
    16  in a record, an opcode above 118, a prefix opcode (115 to 117), a cut instruction, or no instruction at all
    17  an operand is not below the registers, constants, symbols or children that its record has
    18  a jump, or the next step, goes to where no instruction begins
@@ -53,7 +53,7 @@
 extern "C" {
 #endif
 
-/* A load's answer: the refusal's number, 1 to 14, and then every count is 0; or 0 and the rows used of each table. */
+/* The answer of a load or an examination: the refusal's number, and then every count is 0; or 0 and the rows used of each table. */
 typedef struct {
     uint32_t refusal;
     uint32_t records;
@@ -74,7 +74,7 @@ typedef struct {
    Words of a row. Places count bytes from the file's first, first rows count rows of their table, and are 0 where the number is 0.
    records, 19:  size, nlocals, nregs, rlen, clen, ilen, place of the instructions, then first row and number of its handlers, pool entries,
                  symbols, names, debug files and lines
-   handlers, 4:  kind, begin, end, target
+   handlers, 4:  kind (0 rescue, 1 ensure; any byte loads), begin, end, target: offsets in the record's instructions
    pool, 3:      kind (0 and 2 string, 1 int32, 3 int64, 5 float64, 7 big integer), place and length of the value's bytes
    symbols, 2:   place, length of the text without its zero
    strings, 2:   the same, of a local variable's name
@@ -264,8 +264,9 @@ typedef struct {
 BlotheathLookedLine blotheath_line(const uint32_t *records, size_t records_len, const uint32_t *lines, size_t lines_len,
                                    uint32_t rec, uint32_t offset);
 
-/* An instruction. refusal: 0, 23 or 24: 24 on no bytes, then 23, then 24. kind: 0 Z, 1 B, 2 BB, 3 S, 4 BBB, 5 BS, 6 W, 7 BSS. Operands that the
-   kind lacks are 0; so is all else after a refusal. */
+/* An instruction. refusal: 0, 23 or 24: 24 on no bytes, then 23, then 24. kind: 0 Z, 1 B, 2 BB, 3 S, 4 BBB, 5 BS, 6 W, 7 BSS: an
+   operand for each letter, B of one byte, S of two, W of three, high byte first, Z none. Operands that the kind lacks are 0; so is all else after
+   a refusal. */
 typedef struct {
     uint32_t refusal;
     uint32_t kind;
