@@ -313,31 +313,38 @@ fn hostile_files_in_64_mb() {
         ("wide", build::tree(true)),
         ("deep", build::tree(false)),
     ];
-    for (name, bytes) in hostile {
-        assert!(bytes.len() <= 65_536, "{name}: {}", bytes.len());
-        let path = folder.file(name, &bytes);
-        for command in [
-            &["examine"][..],
-            &["load"],
-            &["load", "--json"],
-            &["steps"],
-            &["steps", "--json"],
-            &["report"],
-            &["follow"],
-        ] {
-            let mut words = command.to_vec();
-            words.push(&path);
-            if command[0] == "follow" {
-                words.extend(["9", "go"]);
-            }
-            let ran = run_in_64_mb(&words);
-            assert!(ran.status < 2, "{command:?} {name}: {}", ran.err);
-            assert!(
-                ran.out.len() < 64 << 20,
-                "{command:?} {name}: {}",
-                ran.out.len()
-            );
+    // Each file in a thread of its own: they take a minute one behind the other.
+    std::thread::scope(|scope| {
+        for (name, bytes) in &hostile {
+            scope.spawn(|| hostile_file_in_64_mb(&folder, name, bytes));
         }
+    });
+}
+
+fn hostile_file_in_64_mb(folder: &Folder, name: &str, bytes: &[u8]) {
+    assert!(bytes.len() <= 65_536, "{name}: {}", bytes.len());
+    let path = folder.file(name, bytes);
+    for command in [
+        &["examine"][..],
+        &["load"],
+        &["load", "--json"],
+        &["steps"],
+        &["steps", "--json"],
+        &["report"],
+        &["follow"],
+    ] {
+        let mut words = command.to_vec();
+        words.push(&path);
+        if command[0] == "follow" {
+            words.extend(["9", "go"]);
+        }
+        let ran = run_in_64_mb(&words);
+        assert!(ran.status < 2, "{command:?} {name}: {}", ran.err);
+        assert!(
+            ran.out.len() < 64 << 20,
+            "{command:?} {name}: {}",
+            ran.out.len()
+        );
     }
 }
 
