@@ -84,7 +84,7 @@ typedef struct {
    lines, 2:     position, line
 
    How much to lend. A load clears all that it is lent, so lend by the file's length: over fitting tables it is six to eight times as fast as the
-   Rust that it was ported from, over nine tables of 64 KiB three times as slow on small files. For a file of n bytes:
+   Rust that it was ported from, over nine tables of 64 KiB two to three times as slow on small files. For a file of n bytes:
                  what a compiler writes    records that do not overlap
    records       n / 32 + 1                n / 20, at most 1,024
    handlers      n / 32 + 1                n / 13
