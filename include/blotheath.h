@@ -11,8 +11,9 @@
    another. Slices that are only read may be shared.
 
    Stack. No theorem bounds it. blotheath_load and blotheath_load_records need at most 448 KiB of stack, blotheath_examine and blotheath_follow
-   at most 512 KiB, every other call 4 KiB: a chain of 1,024 records is the deepest, and the host's tests run it in threads of that stack. What a
-   compiler writes needs far less: some 8 KiB for a load, 80 KiB for an examination or a run, and half a KiB for each level of nesting.
+   at most 512 KiB: a chain of 1,024 records is the deepest, and the host's tests run it in threads of that stack. Every other call takes under
+   1 KiB, as measured. What a compiler writes needs far less: some 8 KiB for a load, 80 KiB for an examination or a run, and half a KiB for each
+   level of nesting.
 
    Refusals. 0 is none, and no refusal is 0.
     1  the file has more than 65,536 bytes
@@ -83,8 +84,8 @@ typedef struct {
    files, 4:     start, row of filenames, first row and number of its lines
    lines, 2:     position, line
 
-   How much to lend. A load clears all that it is lent, so lend by the file's length: over fitting tables it is six to eight times as fast as the
-   Rust that it was ported from, over nine tables of 64 KiB two to three times as slow on small files. For a file of n bytes:
+   How much to lend. A load clears all that it is lent, so lend by the file's length: over fitting tables it loads real files some six times as
+   fast as the Rust that it was ported from, over nine tables of 64 KiB at less than half that Rust's speed. For a file of n bytes:
                  what a compiler writes    records that do not overlap
    records       n / 32 + 1                n / 20, at most 1,024
    handlers      n / 32 + 1                n / 13

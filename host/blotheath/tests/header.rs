@@ -37,21 +37,11 @@ fn every_refusal_stands_in_the_header_once() {
 fn the_rows_to_lend_are_those_that_the_host_lends() {
     let header = header();
     let (_, table) = header.split_once("How much to lend").unwrap();
-    let names = [
-        "records",
-        "handlers",
-        "pool",
-        "symbols",
-        "strings",
-        "names",
-        "filenames",
-        "files",
-        "lines",
-    ];
-    for (kind, name) in names.iter().enumerate() {
+    for (kind, name) in model::NAMES.iter().enumerate() {
+        let name = name.replace('_', "");
         let row = table
             .lines()
-            .find(|line| line.split_whitespace().next() == Some(name))
+            .find(|line| line.split_whitespace().next() == Some(&name))
             .unwrap();
         let divisors: Vec<usize> = row
             .split('/')

@@ -193,9 +193,9 @@ fn lvar(records: usize) -> Vec<u8> {
     section(b"LVAR", &content)
 }
 
-/// One file name, and so many debug records of one file whose packed map has two lines.
+/// One file name, and so many debug records of one file whose packed map has one line, in numbers of five bytes, the longest.
 fn dbg(records: usize) -> Vec<u8> {
-    let map = [0, 1, 3, 1];
+    let map = [128, 128, 128, 128, 0, 129, 128, 128, 128, 0];
     let mut record = vec![0, 0, 0, 0, 0, 1];
     // The file's start, its name, the bytes of its map, their kind.
     record.extend([0, 0, 0, 0, 0, 0, 0, 0, 0, map.len() as u8, 2]);
