@@ -1,16 +1,16 @@
 // The C boundary: total calls on numbers and slices, with answers that are structs of numbers.
-use boundary::BlotheathConstant;
-use boundary::BlotheathDebugFile;
-use boundary::BlotheathFetched;
 use boundary::BlotheathFollowed;
-use boundary::BlotheathHandler;
-use boundary::BlotheathLine;
 use boundary::BlotheathLoaded;
-use boundary::BlotheathLookedLine;
-use boundary::BlotheathName;
-use boundary::BlotheathText;
+use boundary_lookups::BlotheathConstant;
+use boundary_lookups::BlotheathDebugFile;
+use boundary_lookups::BlotheathHandler;
+use boundary_lookups::BlotheathLookedLine;
+use boundary_lookups::BlotheathName;
+use boundary_lookups::BlotheathText;
+use boundary_steps::BlotheathFetched;
+use boundary_steps::BlotheathLine;
 use line::Pos;
-use records::Record;
+use records_row::Record;
 ghost use mathlib.Core.Path.{_≡_};
 ghost use lib.ListN.{length};
 ghost use Rattle.format.specs.Insn.{fetch};
@@ -20,7 +20,8 @@ ghost use Rattle.format.specs.Lookup as lookup;
 ghost use Rattle.format.specs.Exam.{examine};
 ghost use Rattle.format.specs.Run.{follow};
 ghost use Rattle.rite.specs.Answers.{words, sizes};
-ghost use Rattle.boundary.specs.Structs.{fetchedIs, lineIs, textIs, handlerIs, constantIs, nameIs, debugFileIs, lookedLineIs};
+ghost use Rattle.boundary_steps.specs.Structs.{fetchedIs, lineIs};
+ghost use Rattle.boundary_lookups.specs.Structs.{textIs, handlerIs, constantIs, nameIs, debugFileIs, lookedLineIs};
 ghost use Rattle.records.specs.Records.{rowsOf};
 ghost use Rattle.blotheath.specs.Exported.{exported, loadedIs, ran, ranIs};
 
@@ -29,7 +30,7 @@ ghost use Rattle.blotheath.specs.Exported.{exported, loadedIs, ran, ranI
 pub extern "C" fn blotheath_fetch(code: &[u8]) -> BlotheathFetched
     ensures { λ r. ⌜ r ≡ fetchedIs (fetch (now (code .entry))) ⌝ }
 {
-    boundary::fetched(insn::fetch(code))
+    boundary_steps::fetched(insn::fetch(code))
 }
 
 // The line of a position in a map of rows of two words: position, line.
@@ -37,7 +38,7 @@ pub extern "C" fn blotheath_fetch(code: &[u8]) -> BlotheathFetched
 pub extern "C" fn blotheath_line_at(map: &[u32], pos: u32) -> BlotheathLine
     ensures { λ r. ⌜ r ≡ lineIs (lineAt (mapOf (now (map .entry))) pos) ⌝ }
 {
-    boundary::line_found(line::line_at(map, Pos(pos)))
+    boundary_steps::line_found(line::line_at(map, Pos(pos)))
 }
 
 // The place and length of a record's instructions.
@@ -45,7 +46,7 @@ pub extern "C" fn blotheath_line_at(map: &[u32], pos: u32) -> BlotheathLine
 pub extern "C" fn blotheath_instructions(file: &[u8], records: &[u32], rec: u32) -> BlotheathText
     ensures { λ r. ⌜ r ≡ textIs (lookup.instructions (now (file .entry)) (now (records .entry)) rec) ⌝ }
 {
-    boundary::text(lookup::instructions(file, records, rec))
+    boundary_lookups::text(lookup::instructions(file, records, rec))
 }
 
 // A handler of a record.
@@ -58,7 +59,7 @@ pub extern "C" fn blotheath_handler(
 ) -> BlotheathHandler
     ensures { λ r. ⌜ r ≡ handlerIs (lookup.handler (now (records .entry)) (now (handlers .entry)) rec index) ⌝ }
 {
-    boundary::handler(lookup::handler(records, handlers, rec, index))
+    boundary_lookups::handler(lookup::handler(records, handlers, rec, index))
 }
 
 // A constant of a record.
@@ -72,7 +73,7 @@ pub extern "C" fn blotheath_pool(
 ) -> BlotheathConstant
     ensures { λ r. ⌜ r ≡ constantIs (lookup.pool (now (file .entry)) (now (records .entry)) (now (pool .entry)) rec index) ⌝ }
 {
-    boundary::constant(lookup::pool(file, records, pool, rec, index))
+    boundary_lookups::constant(lookup::pool(file, records, pool, rec, index))
 }
 
 // A symbol of a record.
@@ -86,7 +87,7 @@ pub extern "C" fn blotheath_symbol(
 ) -> BlotheathText
     ensures { λ r. ⌜ r ≡ textIs (lookup.symbol (now (file .entry)) (now (records .entry)) (now (symbols .entry)) rec index) ⌝ }
 {
-    boundary::text(lookup::symbol(file, records, symbols, rec, index))
+    boundary_lookups::text(lookup::symbol(file, records, symbols, rec, index))
 }
 
 // A local variable's name.
@@ -101,7 +102,7 @@ pub extern "C" fn blotheath_name(
 ) -> BlotheathName
     ensures { λ r. ⌜ r ≡ nameIs (lookup.name (now (file .entry)) (now (records .entry)) (now (strings .entry)) (now (names .entry)) rec index) ⌝ }
 {
-    boundary::name(lookup::name(file, records, strings, names, rec, index))
+    boundary_lookups::name(lookup::name(file, records, strings, names, rec, index))
 }
 
 // A debug file of a record.
@@ -117,7 +118,15 @@ pub extern "C" fn blotheath_debug_file(
 ) -> BlotheathDebugFile
     ensures { λ r. ⌜ r ≡ debugFileIs (lookup.debugFile (now (file .entry)) (now (records .entry)) (now (filenames .entry)) (now (files .entry)) (now (lines .entry)) rec index) ⌝ }
 {
-    boundary::debug_file(lookup::debug_file(file, records, filenames, files, lines, rec, index))
+    boundary_lookups::debug_file(lookup::debug_file(
+        file,
+        records,
+        filenames,
+        files,
+        lines,
+        rec,
+        index,
+    ))
 }
 
 // The line of an offset of a record.
@@ -130,7 +139,7 @@ pub extern "C" fn blotheath_line(
 ) -> BlotheathLookedLine
     ensures { λ r. ⌜ r ≡ lookedLineIs (lookup.line (now (records .entry)) (now (lines .entry)) rec offset) ⌝ }
 {
-    boundary::looked_line(lookup::line(records, lines, rec, Pos(offset)))
+    boundary_lookups::looked_line(lookup::line(records, lines, rec, Pos(offset)))
 }
 
 // Loads a file into nine lent tables.

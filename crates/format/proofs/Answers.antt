@@ -1,8 +1,9 @@
 -- Laws of answers, of tests and of rows in turn: what holds of the value that was answered, or of the number of the refusal.
 -- Assumes nothing.
-use Prim.Native.Nat.{ℕ, zero, suc}
+use Prim.Native.Nat.{ℕ, zero, suc, _≤_}
 use native.Mathlib.Omega.{arith}
-use mathlib.Core.Path.{_≡_, refl, ap}
+use mathlib.Core.Path.{_≡_, refl, ap, _∙_, sym}
+use mathlib.Core.Logic.{_↔_}
 use mathlib.Core.Bool.{Bool, true, false, cond}
 use lib.ListN.{length}
 use Rattle.format.specs.Bytes.{Answer, ok, refused, bind, onAnswer, Step}
@@ -61,6 +62,21 @@ module _ {A : Type 0} (P : A → Type 0) (R : ℕ → Type 0) where
   pub chained : {B : Type 0} (Q : B → Type 0) (x : Answer B) (k : B → Answer A) → Holds Q R x → ((b : B) → Q b → Holds P R (k b)) → Holds P R (bind x k)
   chained Q (ok b) k q h = h b q
   chained Q (refused e) k q h = q
+
+-- it is not refused by 0
+abbrev pub NotZero : {A : Type 0} → Answer A → Type 0
+NotZero x = (e : ℕ) → x ≡ refused e → 1 ≤ e
+
+-- it is no refusal
+abbrev pub Valued : {A : Type 0} → Answer A → Type 0
+Valued {A = A} x = (a : A) × (x ≡ ok a)
+
+-- a field that is 0 for every value and the number for every refusal is 0 exactly where the answer is no refusal
+module _ {A : Type 0} (field : Answer A → ℕ) (valued : (a : A) → field (ok a) ≡ 0) (number : (e : ℕ) → field (refused e) ≡ e) where
+  pub zero-iff : (x : Answer A) → NotZero x → (field x ≡ 0) ↔ Valued x
+  zero-iff (ok a) h = (λ _. (a, refl), λ _. valued a)
+  zero-iff (refused e) h =
+      (λ z. let k : e ≡ 0 = sym (number e) ∙ z in let g = h e refl in absurd (omega arith), λ y. absurd (ok-refused (y .1)))
 
 -- n rows in turn that nothing refuses are n
 pub inTurn-all : {R : Type 0} (p : ℕ → Answer (Step R)) (n at to : ℕ) → inTurn p n at .end ≡ ok to → length (inTurn p n at .rows) ≡ n

@@ -2,29 +2,38 @@
 -- Assumes nothing.
 use lib.ListN.{replicate}
 use Rattle.format.specs.Bytes.{Answer, ok, refused}
-use Rattle.format.specs.Headers.{FileHeader, SectionHeader, IrepHeader, RecordHeader, HandlerHeader}
+use Rattle.format.specs.Headers.{FileHeader, SectionHeader}
 use Rattle.headers.specs.declared.RiteBinaryHeaderRead.{RiteBinaryHeaderRead}
 use Rattle.headers.specs.declared.SectionMiscHeaderRead.{SectionMiscHeaderRead}
-use Rattle.headers.specs.declared.SectionIrepHeaderRead.{SectionIrepHeaderRead}
-use Rattle.headers.specs.declared.IrepRecordRead.{IrepRecordRead}
-use Rattle.headers.specs.declared.IrepCatchHandlerRead.{IrepCatchHandlerRead}
 
 abbrev pub riteBinaryHeaderOf : Answer FileHeader → RiteBinaryHeaderRead
-riteBinaryHeaderOf (ok h) = record { refusal = 0; header = record { ident = h .ident; «major_version» = h .major; «minor_version» = h .minor; size = h .size; «compiler_name» = h .compiler; «compiler_version» = h .version } }
-riteBinaryHeaderOf (refused e) = record { refusal = e; header = record { ident = replicate 4 0; «major_version» = replicate 2 0; «minor_version» = replicate 2 0; size = replicate 4 0; «compiler_name» = replicate 4 0; «compiler_version» = replicate 4 0 } }
+riteBinaryHeaderOf (ok h) =
+    record {
+      refusal = 0;
+      header =
+          record {
+            ident = h .ident;
+            «major_version» = h .major;
+            «minor_version» = h .minor;
+            size = h .size;
+            «compiler_name» = h .compiler;
+            «compiler_version» = h .version;
+          };
+    }
+riteBinaryHeaderOf (refused e) =
+    record {
+      refusal = e;
+      header =
+          record {
+            ident = replicate 4 0;
+            «major_version» = replicate 2 0;
+            «minor_version» = replicate 2 0;
+            size = replicate 4 0;
+            «compiler_name» = replicate 4 0;
+            «compiler_version» = replicate 4 0;
+          };
+    }
 
 abbrev pub sectionMiscHeaderOf : Answer SectionHeader → SectionMiscHeaderRead
 sectionMiscHeaderOf (ok h) = record { refusal = 0; header = record { ident = h .mark; size = h .size } }
 sectionMiscHeaderOf (refused e) = record { refusal = e; header = record { ident = replicate 4 0; size = replicate 4 0 } }
-
-abbrev pub sectionIrepHeaderOf : Answer IrepHeader → SectionIrepHeaderRead
-sectionIrepHeaderOf (ok h) = record { refusal = 0; header = record { ident = h .mark; size = h .size; «rite_version» = h .version } }
-sectionIrepHeaderOf (refused e) = record { refusal = e; header = record { ident = replicate 4 0; size = replicate 4 0; «rite_version» = replicate 4 0 } }
-
-abbrev pub irepRecordOf : Answer RecordHeader → IrepRecordRead
-irepRecordOf (ok h) = record { refusal = 0; header = record { size = h .size; nlocals = h .nlocals; nregs = h .nregs; rlen = h .rlen; clen = h .clen; ilen = h .ilen } }
-irepRecordOf (refused e) = record { refusal = e; header = record { size = replicate 4 0; nlocals = replicate 2 0; nregs = replicate 2 0; rlen = replicate 2 0; clen = replicate 2 0; ilen = replicate 4 0 } }
-
-abbrev pub irepCatchHandlerOf : Answer HandlerHeader → IrepCatchHandlerRead
-irepCatchHandlerOf (ok h) = record { refusal = 0; header = record { «type_» = h .kind; begin = h .begin; end = h .end; target = h .target } }
-irepCatchHandlerOf (refused e) = record { refusal = e; header = record { «type_» = 0; begin = replicate 4 0; end = replicate 4 0; target = replicate 4 0 } }

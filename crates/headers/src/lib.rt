@@ -1,16 +1,17 @@
-// The five headers, field by field as bytes, and their reading from the first bytes of a slice; the size that a section states.
+// The headers of the file and of LVAR, DBG and END, field by field as bytes, and their reading from the first bytes of a slice; the size that a section
+// states.
 use binfmt::Field32;
 use binfmt::be32_to_u32;
 ghost use mathlib.Core.Path.{_≡_};
 ghost use Prim.Native.Nat.{_+_, _≤_};
 ghost use lib.ListN.{length};
 ghost use Rattle.format.specs.Bytes.{twoAt, fourAt, u32At, reads};
-ghost use Rattle.format.specs.Headers.{fileHeader, sectionHeader, irepHeader, recordHeader, handlerHeader};
+ghost use Rattle.format.specs.Headers.{fileHeader, sectionHeader};
 ghost use Rattle.binfmt.specs.Answers.{field32Of};
-ghost use Rattle.headers.specs.Headers.{riteBinaryHeaderOf, sectionMiscHeaderOf, sectionIrepHeaderOf, irepRecordOf, irepCatchHandlerOf};
+ghost use Rattle.headers.specs.Headers.{riteBinaryHeaderOf, sectionMiscHeaderOf};
 
 // The two bytes at a place.
-fn two(buf: &[u8], at: usize) -> [u8; 2]
+pub fn two(buf: &[u8], at: usize) -> [u8; 2]
     requires { ⌜ at + 2 ≤ length (now buf) ⌝ }
     ensures { λ r. ⌜ r ≡ twoAt (now (buf .entry)) at ⌝ }
 {
@@ -18,7 +19,7 @@ fn two(buf: &[u8], at: usize) -> [u8; 2]
 }
 
 // The four bytes at a place.
-fn four(buf: &[u8], at: usize) -> [u8; 4]
+pub fn four(buf: &[u8], at: usize) -> [u8; 4]
     requires { ⌜ at + 4 ≤ length (now buf) ⌝ }
     ensures { λ r. ⌜ r ≡ fourAt (now (buf .entry)) at ⌝ }
 {
@@ -102,132 +103,6 @@ impl SectionMiscHeader {
             header: SectionMiscHeader {
                 ident: four(buf, 0),
                 size: four(buf, 4),
-            },
-        }
-    }
-}
-
-// The header of an IREP section.
-pub struct SectionIrepHeader {
-    pub ident: [u8; 4],
-    pub size: [u8; 4],
-    pub rite_version: [u8; 4],
-}
-
-// A header, or zeros beside the refusal's number; 0 for no refusal.
-pub struct SectionIrepHeaderRead {
-    pub refusal: u8,
-    pub header: SectionIrepHeader,
-}
-
-impl SectionIrepHeader {
-    pub fn from_bytes(buf: &[u8]) -> SectionIrepHeaderRead
-        ensures { λ r. ⌜ r ≡ sectionIrepHeaderOf (irepHeader (now (buf .entry))) ⌝ }
-    {
-        if buf.len() < 12 {
-            return SectionIrepHeaderRead {
-                refusal: 7,
-                header: SectionIrepHeader {
-                    ident: [0; 4],
-                    size: [0; 4],
-                    rite_version: [0; 4],
-                },
-            };
-        }
-        SectionIrepHeaderRead {
-            refusal: 0,
-            header: SectionIrepHeader {
-                ident: four(buf, 0),
-                size: four(buf, 4),
-                rite_version: four(buf, 8),
-            },
-        }
-    }
-}
-
-// A record's first 16 bytes.
-pub struct IrepRecord {
-    pub size: [u8; 4],
-    pub nlocals: [u8; 2],
-    pub nregs: [u8; 2],
-    pub rlen: [u8; 2],
-    pub clen: [u8; 2],
-    pub ilen: [u8; 4],
-}
-
-// A header, or zeros beside the refusal's number; 0 for no refusal.
-pub struct IrepRecordRead {
-    pub refusal: u8,
-    pub header: IrepRecord,
-}
-
-impl IrepRecord {
-    pub fn from_bytes(buf: &[u8]) -> IrepRecordRead
-        ensures { λ r. ⌜ r ≡ irepRecordOf (recordHeader (now (buf .entry))) ⌝ }
-    {
-        if buf.len() < 16 {
-            return IrepRecordRead {
-                refusal: 7,
-                header: IrepRecord {
-                    size: [0; 4],
-                    nlocals: [0; 2],
-                    nregs: [0; 2],
-                    rlen: [0; 2],
-                    clen: [0; 2],
-                    ilen: [0; 4],
-                },
-            };
-        }
-        IrepRecordRead {
-            refusal: 0,
-            header: IrepRecord {
-                size: four(buf, 0),
-                nlocals: two(buf, 4),
-                nregs: two(buf, 6),
-                rlen: two(buf, 8),
-                clen: two(buf, 10),
-                ilen: four(buf, 12),
-            },
-        }
-    }
-}
-
-// A handler's 13 bytes.
-pub struct IrepCatchHandler {
-    pub type_: u8,
-    pub begin: [u8; 4],
-    pub end: [u8; 4],
-    pub target: [u8; 4],
-}
-
-// A handler, or zeros beside the refusal's number; 0 for no refusal.
-pub struct IrepCatchHandlerRead {
-    pub refusal: u8,
-    pub header: IrepCatchHandler,
-}
-
-impl IrepCatchHandler {
-    pub fn from_bytes(buf: &[u8]) -> IrepCatchHandlerRead
-        ensures { λ r. ⌜ r ≡ irepCatchHandlerOf (handlerHeader (now (buf .entry))) ⌝ }
-    {
-        if buf.len() < 13 {
-            return IrepCatchHandlerRead {
-                refusal: 7,
-                header: IrepCatchHandler {
-                    type_: 0,
-                    begin: [0; 4],
-                    end: [0; 4],
-                    target: [0; 4],
-                },
-            };
-        }
-        IrepCatchHandlerRead {
-            refusal: 0,
-            header: IrepCatchHandler {
-                type_: buf[0],
-                begin: four(buf, 1),
-                end: four(buf, 5),
-                target: four(buf, 9),
             },
         }
     }

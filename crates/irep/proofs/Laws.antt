@@ -15,9 +15,9 @@ use Rattle.format.specs.Headers.{irepHeader, recordHeader}
 use Rattle.format.specs.Irep.{Head, headAt}
 use Rattle.format.proofs.Answers.{either}
 use Rattle.format.proofs.Places.{part-is}
-use Rattle.headers.specs.declared.SectionIrepHeaderRead.{SectionIrepHeaderRead}
-use Rattle.headers.specs.declared.IrepRecordRead.{IrepRecordRead}
-use Rattle.headers.specs.Headers.{sectionIrepHeaderOf, irepRecordOf}
+use Rattle.headers_irep.specs.declared.SectionIrepHeaderRead.{SectionIrepHeaderRead}
+use Rattle.headers_irep.specs.declared.IrepRecordRead.{IrepRecordRead}
+use Rattle.headers_irep.specs.Headers.{sectionIrepHeaderOf, irepRecordOf}
 use Rattle.rows.specs.Table.{rowCount}
 use Rattle.irep.specs.declared.Used.{Used}
 use Rattle.irep.specs.declared.Content.{Content}

@@ -8,7 +8,7 @@ use lib.ListN.{length}
 use Rattle.format.specs.Bytes.{has, u16At, u32At}
 use Rattle.format.specs.Rows.{RecordRow, range, recordWords}
 use Rattle.format.specs.Irep.{Head, headAt}
-use Rattle.headers.specs.declared.IrepRecord.{IrepRecord}
+use Rattle.headers_irep.specs.declared.IrepRecord.{IrepRecord}
 use Rattle.rows.specs.declared.Row.the-variants.{Handler, Pool, Symbol}
 use Rattle.rows.specs.Table.{rowCount, onRows, putOf, times}
 use Rattle.rows.specs.Rows.{rowOf, countedOf}

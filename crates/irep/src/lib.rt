@@ -2,8 +2,8 @@
 use binfmt::be16_to_u16;
 use binfmt::be32_to_u32;
 use binfmt::rest;
-use headers::IrepRecord;
-use headers::SectionIrepHeader;
+use headers_irep::IrepRecord;
+use headers_irep::SectionIrepHeader;
 use rows::Row;
 use rows::Rows;
 use rows::first_row;

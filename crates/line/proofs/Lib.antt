@@ -1,3 +1,1 @@
-pub mod FirstByte
 pub mod Halving
-pub mod Sums

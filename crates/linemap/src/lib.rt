@@ -1,11 +1,11 @@
 // The line map of one debug file, put into a lent table of words.
 use binfmt::rest;
-use line::Entry;
 use line::LastLine;
 use line::Line;
 use line::Pos;
 use line::keeps_line;
-use line::packed_entry;
+use line_packed::Entry;
+use line_packed::packed_entry;
 use rows::Rows;
 use rows::put_row;
 use rows::u16_in;
@@ -15,7 +15,8 @@ ghost use mathlib.Core.Option.{none};
 ghost use Prim.Native.Nat.{_+_, _-_, _<_};
 ghost use Rattle.format.specs.Rows.{lineRow};
 ghost use Rattle.format.specs.Debug.{mapEntry, after, goesOn};
-ghost use Rattle.line.specs.Answers.{entryOf, lastOf};
+ghost use Rattle.line.specs.Answers.{lastOf};
+ghost use Rattle.line_packed.specs.Answers.{entryOf};
 ghost use Rattle.rows.specs.Table.{out};
 ghost use Rattle.linemap.specs.Answers.{beforeOf};
 ghost use Rattle.linemap.specs.Lines.{lineRun, firstBefore, pushOf, lineOf, linesOf};

@@ -1,15 +1,15 @@
--- The row of an opcode byte: at a byte, above 118, by shape; its operand kind and size.
+-- The row of an opcode byte: at a byte, above 118, by shape; its operand kind.
 -- Assumes nothing.
 use Prim.Native.Nat.{ℕ, zero, suc, _≤_}
 use mathlib.Core.Path.{_≡_, sym, ap, _∙_}
 use mathlib.Core.List.{[]}
 use native.Mathlib.Omega.{arith}
 use lib.ListN.{List·getD-eq-default}
-use Rattle.format.specs.Insn.{NOP, Z, on, op, table, row, kind, width}
-use Rattle.opcode.specs.declared.Kind.{Kind}
+use Rattle.format.specs.Insn.{NOP, Z, on, op, table, row, kind}
 use Rattle.opcode.specs.declared.OpRow.{OpRow}
 use Rattle.opcode.specs.declared.Shape.{Shape}
-use Rattle.opcode.specs.Rows.{RowView, viewOf, opRow, kindOf, rowOf, shapeOf}
+use Rattle.opcode_kind.specs.Kinds.{kindOf}
+use Rattle.opcode.specs.Rows.{RowView, viewOf, opRow, rowOf, shapeOf}
 
 pub at : {b k : ℕ} → b ≡ k → opRow k ≡ opRow b
 at e = ap opRow (sym e)
@@ -33,6 +33,3 @@ shaped e q h same = ap rowOf e ∙ same ∙ ap shapeOf (sym q) ∙ h
 
 pub kind-told : (r : OpRow) (b : ℕ) → rowOf r ≡ opRow b → kind (row b) ≡ kindOf (r .kind)
 kind-told r b h = ap (λ (v : RowView). v .kind) (sym h)
-
-pub size-told : {k j : Kind} → k ≡ j → suc (width (kindOf j)) ≡ suc (width (kindOf k))
-size-told e = ap (λ (k : Kind). suc (width (kindOf k))) (sym e)

@@ -1,10 +1,9 @@
--- What the code's operand kinds, roles, flows and rows are in the format's terms, and the row of an opcode byte.
+-- What the code's roles, flows and rows are in the format's terms, and the row of an opcode byte.
 -- Assumes nothing.
 use Prim.Native.Nat.{ℕ}
 use lib.ListN.{getD}
 use Rattle.format.specs.Insn as format
-use Rattle.opcode.specs.declared.Kind.{Kind}
-use Rattle.opcode.specs.declared.Kind.the-variants as k
+use Rattle.opcode_kind.specs.Kinds.{kindOf}
 use Rattle.opcode.specs.declared.Role.{Role}
 use Rattle.opcode.specs.declared.Role.the-variants as r
 use Rattle.opcode.specs.declared.Flow.{Flow}
@@ -12,16 +11,6 @@ use Rattle.opcode.specs.declared.Flow.the-variants as f
 use Rattle.opcode.specs.declared.Shape.{Shape}
 use Rattle.opcode.specs.declared.Shape.the-variants as s
 use Rattle.opcode.specs.declared.OpRow.{OpRow}
-
-abbrev pub kindOf : Kind → format.Kind
-kindOf k.Z = format.Z
-kindOf k.B = format.B
-kindOf k.BB = format.BB
-kindOf k.BBB = format.BBB
-kindOf k.BS = format.BS
-kindOf k.BSS = format.BSS
-kindOf k.S = format.S
-kindOf k.W = format.W
 
 abbrev pub roleOf : Role → format.Role
 roleOf r.Reg = format.reg

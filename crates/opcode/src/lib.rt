@@ -1,24 +1,12 @@
 // What is known of each opcode byte: operand kind, what its operands number, where a run goes on, size.
+pub use opcode_kind::Kind;
 ghost use mathlib.Core.Path.{_≡_};
-ghost use Prim.Native.Nat.{suc};
 ghost use Rattle.format.specs.Insn as format;
-ghost use Rattle.opcode.specs.Rows.{kindOf, rowOf, shapeOf, opRow};
+ghost use Rattle.opcode.specs.Rows.{rowOf, shapeOf, opRow};
 
 pub mod names;
 
 use names::*;
-
-// Operand kinds: B a byte, S two bytes, W three.
-pub enum Kind {
-    Z,
-    B,
-    BB,
-    BBB,
-    BS,
-    BSS,
-    S,
-    W,
-}
 
 // What an operand numbers.
 pub enum Role {
@@ -236,24 +224,6 @@ pub fn op_row(b: u8) -> OpRow
         Shape::BssReg => row(Kind::BSS, Role::Reg, Role::Plain, Flow::On),
         Shape::SJumps => row(Kind::S, Role::Plain, Role::Plain, Flow::Jumps),
         Shape::W => row(Kind::W, Role::Plain, Role::Plain, Flow::On),
-    }
-}
-
-impl Kind {
-    // How many bytes an instruction of this kind has, its opcode byte with them.
-    pub fn size(self) -> usize
-        ensures { λ r. ⌜ r ≡ suc (format.width (kindOf self)) ⌝ }
-    {
-        match self {
-            Kind::Z => 1,
-            Kind::B => 2,
-            Kind::BB => 3,
-            Kind::BBB => 4,
-            Kind::BS => 4,
-            Kind::BSS => 6,
-            Kind::S => 3,
-            Kind::W => 4,
-        }
     }
 }
 

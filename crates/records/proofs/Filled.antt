@@ -8,8 +8,9 @@ use lib.ListN.{length, drop, set, drop-of-length-le}
 use lib.Seq.{drop-cons, set-at}
 use Rattle.format.specs.Line.{rowsFrom}
 use Rattle.format.proofs.RowsFrom.{rowsFrom-length}
-use Rattle.records.specs.declared.Record.{Record}
-use Rattle.records.specs.Records.{zeroRow, rowAt, rowsOf}
+use Rattle.records_row.specs.declared.Record.{Record}
+use Rattle.records_row.specs.Row.{zeroRow, rowAt}
+use Rattle.records.specs.Records.{rowsOf}
 
 -- one row more at the end
 rowsFrom-last : {R : Type 0} (f : ℕ → R) (i n : ℕ) → rowsFrom f i (suc n) ≡ rowsFrom f i n ++ (f (i + n) ∷ [])

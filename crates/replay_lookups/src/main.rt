@@ -1,12 +1,12 @@
 // Replays stored answers of fetch, line lookup and the seven lookups. Answers are compared as the structs of the C boundary.
-use boundary::BlotheathConstant;
-use boundary::BlotheathDebugFile;
-use boundary::BlotheathFetched;
-use boundary::BlotheathHandler;
-use boundary::BlotheathLine;
-use boundary::BlotheathLookedLine;
-use boundary::BlotheathName;
-use boundary::BlotheathText;
+use boundary_lookups::BlotheathConstant;
+use boundary_lookups::BlotheathDebugFile;
+use boundary_lookups::BlotheathHandler;
+use boundary_lookups::BlotheathLookedLine;
+use boundary_lookups::BlotheathName;
+use boundary_lookups::BlotheathText;
+use boundary_steps::BlotheathFetched;
+use boundary_steps::BlotheathLine;
 use libc::STDIN_FILENO;
 use libc::STDOUT_FILENO;
 use line::Pos;
@@ -37,7 +37,11 @@ fn fetched_agrees(r: BlotheathFetched, all: &[u8], at: usize) -> bool {
 fn fetch_at(all: &[u8], code: usize, bytes: usize, at: usize) -> bool {
     let end = least(ahead(code, bytes), all.len());
     let start = least(code, end);
-    fetched_agrees(boundary::fetched(insn::fetch(&all[start..end])), all, at)
+    fetched_agrees(
+        boundary_steps::fetched(insn::fetch(&all[start..end])),
+        all,
+        at,
+    )
 }
 
 // Reads as many words as there is place for.
@@ -58,7 +62,7 @@ fn line_agrees(r: BlotheathLine, all: &[u8], at: usize) -> bool {
 fn line_in(words: &mut [u32], all: &[u8], map: usize, at: usize) -> bool {
     read_words(words, all, map);
     line_agrees(
-        boundary::line_found(line::line_at(words, Pos(word(all, at)))),
+        boundary_steps::line_found(line::line_at(words, Pos(word(all, at)))),
         all,
         ahead(at, 4),
     )
@@ -166,10 +170,15 @@ fn look_up(
     index: u32,
 ) -> [u32; 6] {
     match lookup {
-        0 => of_text(boundary::text(lookup::instructions(file, records, rec))),
-        1 => of_handler(boundary::handler(lookup::handler(records, table, rec, index))),
-        3 => of_text(boundary::text(lookup::symbol(file, records, table, rec, index))),
-        _ => of_looked_line(boundary::looked_line(lookup::line(records, table, rec, Pos(index)))),
+        0 => of_text(boundary_lookups::text(lookup::instructions(file, records, rec))),
+        1 => of_handler(boundary_lookups::handler(lookup::handler(records, table, rec, index))),
+        3 => of_text(boundary_lookups::text(lookup::symbol(file, records, table, rec, index))),
+        _ => of_looked_line(boundary_lookups::looked_line(lookup::line(
+            records,
+            table,
+            rec,
+            Pos(index),
+        ))),
     }
 }
 
@@ -197,7 +206,7 @@ fn name_in(words: &[u32], file: &[u8], rec: u32, index: u32) -> [u32; 6] {
     let c = table_start(words, 4);
     let d = table_end(words, 4, c);
     let e = table_end(words, 5, d);
-    of_name(boundary::name(lookup::name(
+    of_name(boundary_lookups::name(lookup::name(
         file,
         &words[a..b],
         &words[c..d],
@@ -214,7 +223,7 @@ fn debug_file_in(words: &[u32], file: &[u8], rec: u32, index: u32) -> [u32; 6] {
     let d = table_end(words, 6, c);
     let e = table_end(words, 7, d);
     let f = table_end(words, 8, e);
-    of_debug_file(boundary::debug_file(lookup::debug_file(
+    of_debug_file(boundary_lookups::debug_file(lookup::debug_file(
         file,
         &words[a..b],
         &words[c..d],
@@ -230,7 +239,7 @@ fn constant_in(words: &[u32], file: &[u8], rec: u32, index: u32) -> BlotheathCon
     let b = table_end(words, 0, a);
     let c = table_start(words, 2);
     let d = table_end(words, 2, c);
-    boundary::constant(lookup::pool(file, &words[a..b], &words[c..d], rec, index))
+    boundary_lookups::constant(lookup::pool(file, &words[a..b], &words[c..d], rec, index))
 }
 
 // Whether a lookup in nine tables answers as stored at a place, behind the record and the index.

@@ -6,8 +6,8 @@ use insn::Fetched;
 use libc::STDOUT_FILENO;
 use line::Line;
 use line::LineAt;
-use line::Packed;
 use line::Pos;
+use line_packed::Packed;
 use number::Float64;
 use number::Int32;
 use number::Int64;
@@ -97,7 +97,7 @@ fn cut_instructions() {
 
 fn packed(head: &[u8]) {
     io::write_all(STDOUT_FILENO, b"packed");
-    match line::decode_packed_int(head, 0) {
+    match line_packed::decode_packed_int(head, 0) {
         Packed::Value { value, next } => {
             number(value);
             number((next % 8) as u32);

@@ -19,8 +19,8 @@ use Rattle.format.proofs.Places.{rows-length}
 use Rattle.layout.proofs.Own.{owns}
 use Rattle.layout.proofs.Inside.{loading-inside, loading-held}
 use Rattle.layout.proofs.Pattern.{pattern-length, pattern-at}
-use Rattle.records.specs.Records.{rowAt}
-use Rattle.records.proofs.Laws.{table-rows}
+use Rattle.records_row.specs.Row.{rowAt}
+use Rattle.records_row.proofs.Laws.{table-rows}
 use Rattle.view.specs.declared.RecordView.{RecordView}
 use Rattle.view.specs.View.{partOf, shown}
 

@@ -1,7 +1,7 @@
 // A record view: the file that a record was loaded from, and where its instruction bytes lie. What reads the file is a function of plain
 // parameters; those of the view hand its fields on.
 use insn::FetchAnswer;
-use records::Record;
+use records_row::Record;
 ghost use mathlib.Core.Path.{_≡_};
 ghost use Rattle.insn.specs.Answers.{answerOf};
 ghost use Rattle.view.specs.View.{partOf, shown, fetchIn};

@@ -1,7 +1,7 @@
 -- `blotheath::blotheath_debug_file` meets its contract.
 -- Assumes nothing.
 use mathlib.Core.Path.{ap, _∙_}
-use Rattle.boundary.specs.Structs.{debugFileIs}
+use Rattle.boundary_lookups.specs.Structs.{debugFileIs}
 use borrow.Author.Needs.{needs}
 use Rattle.blotheath.proofs.blotheath_debug_file.Statement.{statement}
 use Rattle.blotheath.proofs.blotheath_debug_file.Tie as tie

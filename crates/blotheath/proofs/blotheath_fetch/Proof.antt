@@ -1,7 +1,7 @@
 -- `blotheath::blotheath_fetch` meets its contract.
 -- Assumes nothing.
 use mathlib.Core.Path.{ap, _∙_}
-use Rattle.boundary.specs.Structs.{fetchedIs}
+use Rattle.boundary_steps.specs.Structs.{fetchedIs}
 use borrow.Author.Needs.{needs}
 use Rattle.blotheath.proofs.blotheath_fetch.Statement.{statement}
 use Rattle.blotheath.proofs.blotheath_fetch.Tie as tie

@@ -1,7 +1,7 @@
 -- `blotheath::blotheath_handler` meets its contract.
 -- Assumes nothing.
 use mathlib.Core.Path.{ap, _∙_}
-use Rattle.boundary.specs.Structs.{handlerIs}
+use Rattle.boundary_lookups.specs.Structs.{handlerIs}
 use borrow.Author.Needs.{needs}
 use Rattle.blotheath.proofs.blotheath_handler.Statement.{statement}
 use Rattle.blotheath.proofs.blotheath_handler.Tie as tie

@@ -1,7 +1,7 @@
 -- `blotheath::blotheath_line` meets its contract.
 -- Assumes nothing.
 use mathlib.Core.Path.{ap, _∙_}
-use Rattle.boundary.specs.Structs.{lookedLineIs}
+use Rattle.boundary_lookups.specs.Structs.{lookedLineIs}
 use borrow.Author.Needs.{needs}
 use Rattle.blotheath.proofs.blotheath_line.Statement.{statement}
 use Rattle.blotheath.proofs.blotheath_line.Tie as tie

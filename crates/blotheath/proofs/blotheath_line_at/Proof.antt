@@ -1,7 +1,7 @@
 -- `blotheath::blotheath_line_at` meets its contract.
 -- Assumes nothing.
 use mathlib.Core.Path.{ap, _∙_}
-use Rattle.boundary.specs.Structs.{lineIs}
+use Rattle.boundary_steps.specs.Structs.{lineIs}
 use borrow.Author.Needs.{needs}
 use Rattle.blotheath.proofs.blotheath_line_at.Statement.{statement}
 use Rattle.blotheath.proofs.blotheath_line_at.Tie as tie

@@ -45,9 +45,9 @@ use Rattle.rite.specs.Answers.{words, sizes}
 use Rattle.boundary.specs.declared.BlotheathLoaded.{BlotheathLoaded}
 use Rattle.boundary.proofs.BlotheathLoaded as L
 use Rattle.boundary.proofs.BlotheathLoaded.Laws as L′
-use Rattle.records.specs.declared.Record.{Record}
+use Rattle.records_row.specs.declared.Record.{Record}
 use Rattle.records.specs.Records.{rowsOf}
-use Rattle.records.proofs.Record as T
+use Rattle.records_row.proofs.Record as T
 use Rattle.records.proofs.fill as fill′
 use Rattle.records.proofs.fill.Symbol as fill-def
 use Rattle.records.proofs.fill.Symbol.{name as #records·fill}

@@ -1,7 +1,7 @@
 -- `blotheath::blotheath_name` meets its contract.
 -- Assumes nothing.
 use mathlib.Core.Path.{ap, _∙_}
-use Rattle.boundary.specs.Structs.{nameIs}
+use Rattle.boundary_lookups.specs.Structs.{nameIs}
 use borrow.Author.Needs.{needs}
 use Rattle.blotheath.proofs.blotheath_name.Statement.{statement}
 use Rattle.blotheath.proofs.blotheath_name.Tie as tie

@@ -1,7 +1,7 @@
 -- `blotheath::blotheath_pool` meets its contract.
 -- Assumes nothing.
 use mathlib.Core.Path.{ap, _∙_}
-use Rattle.boundary.specs.Structs.{constantIs}
+use Rattle.boundary_lookups.specs.Structs.{constantIs}
 use borrow.Author.Needs.{needs}
 use Rattle.blotheath.proofs.blotheath_pool.Statement.{statement}
 use Rattle.blotheath.proofs.blotheath_pool.Tie as tie

@@ -4,8 +4,8 @@ use borrow.Author.Needs.{needs}
 use mathlib.Core.Path.{_≡_, ap, _∙_}
 use Rattle.format.specs.Bytes.{Answer}
 use Rattle.format.specs.Insn.{Insn, fetchAs, fetch}
-use Rattle.opcode.specs.declared.Kind.{Kind}
-use Rattle.opcode.specs.Rows.{kindOf}
+use Rattle.opcode_kind.specs.declared.Kind.{Kind}
+use Rattle.opcode_kind.specs.Kinds.{kindOf}
 use Rattle.opcode.proofs.Rows.{kind-told}
 use Rattle.insn.proofs.Answers.{empty, unknown, fetched}
 use Rattle.insn.proofs.fetch.Statement.{statement}

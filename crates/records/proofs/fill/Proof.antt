@@ -50,15 +50,16 @@ use denote.Triple.Table.{entered, cited}
 use denote.Triple.Clauses.{ensured, lasts}
 use denote.Triple.Walked.{says, Stays, stay-slice, stay-none-slice, walkOf, goes-slice, goes-none-slice, Walks, ends-at, walked, walk-meets}
 use denote.Exit.{yes}
-use Rattle.records.specs.declared.Record.{Record}
-use Rattle.records.specs.Records.{rowAt, rowsOf}
+use Rattle.records_row.specs.declared.Record.{Record}
+use Rattle.records_row.specs.Row.{rowAt}
+use Rattle.records.specs.Records.{rowsOf}
 use Rattle.records.proofs.Filled.{upTo, up-to-none, up-to-more, up-to-all}
-use Rattle.records.proofs.Record as T
-use Rattle.records.proofs.Record.Laws as T′
-use Rattle.records.proofs.row_at as row-at
-use Rattle.records.proofs.row_at.Symbol as row-at-def
-use Rattle.records.proofs.row_at.Symbol.{name as #records·row-at}
-use Rattle.records.proofs.row_at.Met as row-at-thm
+use Rattle.records_row.proofs.Record as T
+use Rattle.records_row.proofs.Record.Laws as T′
+use Rattle.records_row.proofs.row_at as row-at
+use Rattle.records_row.proofs.row_at.Symbol as row-at-def
+use Rattle.records_row.proofs.row_at.Symbol.{name as #records-row·row-at}
+use Rattle.records_row.proofs.row_at.Met as row-at-thm
 use Rattle.records.proofs.fill.Key.{name as #records·fill}
 use Rattle.records.proofs.fill as fill′
 use Rattle.records.proofs.fill.Statement as stated
@@ -148,7 +149,7 @@ module _ {M : Type 1} (𝓤 : URA M) (H : Heap 𝓤) (A : Atoms 𝓤) (W : Given
     said : (r : Record) → ent 𝓤 (ensured 𝓤 H A row-at.ended (row-at.clauses 𝓤 H A mem run) (κ′, tt) (w, (i, tt)) tt r) (fact 𝓤 (r ≡ rowAt ws i))
     said r = exE 𝓤 _ (λ us. snd∗ 𝓤 (sem 𝓤 H A (lasts row-at.ended (κ′, tt) (w, (i, tt)) us)) (fact 𝓤 (r ≡ rowAt ws i)))
 
-  module _ (𝓣 : Tables 𝓤 H) (known : Triple 𝓤 (𝓣 .C #records·row-at) (RowAt 𝓤 H A mem run)) (room : Room T.the-row n) (l₀ l₁ l₂ l₃ l₄ l₅ l₆ l₇ : ℕ) where
+  module _ (𝓣 : Tables 𝓤 H) (known : Triple 𝓤 (𝓣 .C #records-row·row-at) (RowAt 𝓤 H A mem run)) (room : Room T.the-row n) (l₀ l₁ l₂ l₃ l₄ l₅ l₆ l₇ : ℕ) where
     abbrev C : Calls 𝓤 H
     C = 𝓣 .C
 
@@ -269,7 +270,7 @@ module _ {M : Type 1} (𝓤 : URA M) (H : Heap 𝓤) (A : Atoms 𝓤) (W : Given
         (loop-rule 𝓤 H (W .laws) 𝓣 _<_ (Nat·lt-wfRel .wf) En code-mir.turn-1 Left Inv turns n)
 
   -- the MIR, up to the loop
-  walk : (𝓣 : Tables 𝓤 H) → Triple 𝓤 (𝓣 .C #records·row-at) (RowAt 𝓤 H A mem run) → Room T.the-row n → Room u32 (length ws) → ent 𝓤 (onEntry 𝓤 H A fill′.signature (κ, (κ′, tt)) (q, (q′, tt)) a vals)
+  walk : (𝓣 : Tables 𝓤 H) → Triple 𝓤 (𝓣 .C #records-row·row-at) (RowAt 𝓤 H A mem run) → Room T.the-row n → Room u32 (length ws) → ent 𝓤 (onEntry 𝓤 H A fill′.signature (κ, (κ′, tt)) (q, (q′, tt)) a vals)
       (WpFn 𝓤 H (𝓣 .C) (𝓣 .Λ) code.function (s ∷ v ∷ []) Post)
   walk 𝓣 known room room-w =
       qed W ((‵ (flft κ q) ⊛ ‵ (flft κ′ q′) ⊛ ‵ ftrue) ∷ ‵ (owns (MutSlice (named 0) κ T.the-row ∷ ShrSlice (named 1) κ′ u32 ∷ []) a vals) ∷ []) ∵ enter ! (𝓣 .C) (𝓣 .Λ) code.function (s ∷ v ∷ []) _ $
@@ -280,7 +281,7 @@ module _ {M : Type 1} (𝓤 : URA M) (H : Heap 𝓤) (A : Atoms 𝓤) (W : Given
       -- [what the words own; true; the words' token; true; the borrow's token; obs; the borrow; the slice's fact; _7; …; _6; …; _5; …; _4; …; _3; …; _2; …; _1; …; room for _0; …]
       keep ! (5 ∷ 6 ∷ 4 ∷ 2 ∷ 0 ∷ 16 ∷ 14 ∷ 12 ∷ 10 ∷ 8 ∷ 20 ∷ 18 ∷ 22 ∷ 23 ∷ 21 ∷ 19 ∷ 17 ∷ 15 ∷ 13 ∷ 11 ∷ 9 ∷ []) $ by ! (loops 𝓣 known room l₀ l₁ l₂ l₃ l₄ l₅ l₆ l₇)))))))))
 
-module _ {M : Type 1} (𝓤 : URA M) (H : Heap 𝓤) (A : Atoms 𝓤) (W : Given 𝓤 H A) (mem : Memory → SProp 𝓤) (run : Routine → Fun 𝓤) (𝓣 : Tables 𝓤 H) (known : Triple 𝓤 (𝓣 .C #records·row-at) (RowAt 𝓤 H A mem run)) where
+module _ {M : Type 1} (𝓤 : URA M) (H : Heap 𝓤) (A : Atoms 𝓤) (W : Given 𝓤 H A) (mem : Memory → SProp 𝓤) (run : Routine → Fun 𝓤) (𝓣 : Tables 𝓤 H) (known : Triple 𝓤 (𝓣 .C #records-row·row-at) (RowAt 𝓤 H A mem run)) where
   fill-walks : Walks 𝓤 H A fill′.ended stayed (WpFn 𝓤 H (𝓣 .C) (𝓣 .Λ) code.function) (fill′.clauses 𝓤 H A mem run)
   fill-walks = walked 𝓤 H A fill′.ended stayed (fill′.clauses 𝓤 H A mem run) (WpFn 𝓤 H (𝓣 .C) (𝓣 .Λ) code.function)
       (λ κs. (slice-vals, (slice-vals, tt))) (λ κs. (mut-slice-tells (named 0) (κs .0) T.the-row, (shr-slice-tells (named 1) (κs .1 .0) u32, tt)))
@@ -298,4 +299,4 @@ fill-spec 𝓤 H 𝓜 𝓖 𝓡 =
     entered 𝓤 H (tripleOf 𝓤 H (𝓖 .A) fill′.signature (fill′.spec 𝓤 H (𝓖 .A) (𝓜 .mem) (𝓡 .run)))
     (tables 𝓤 H 𝓜 𝓡 code.env .C) (tables 𝓤 H 𝓜 𝓡 code.env .Λ) #records·fill code.function (code.unfolded 𝓤 H 𝓜 𝓡)
     (fill-meets 𝓤 H (𝓖 .A) (givenOf 𝓤 H 𝓜 𝓖) (𝓜 .mem) (𝓡 .run) (tablesOf 𝓤 H 𝓜 (tables 𝓤 H 𝓜 𝓡 code.env))
-    (cited 𝓤 H (RowAt 𝓤 H (𝓖 .A) (𝓜 .mem) (𝓡 .run)) 𝓜 𝓡 code.env #records·row-at row-at-def.routine code.calls-records·row-at (row-at-thm.met 𝓤 H 𝓜 𝓖 𝓡)))
+    (cited 𝓤 H (RowAt 𝓤 H (𝓖 .A) (𝓜 .mem) (𝓡 .run)) 𝓜 𝓡 code.env #records-row·row-at row-at-def.routine code.calls-records-row·row-at (row-at-thm.met 𝓤 H 𝓜 𝓖 𝓡)))

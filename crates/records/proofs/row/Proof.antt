@@ -42,14 +42,14 @@ use denote.Triple.Table.{entered, cited}
 use denote.Triple.Clauses.{ensured, lasts}
 use denote.Triple.Walked.{says, Stays, stay-none-slice, stay-none, walkOf, goes-none-slice, goes-none, Walks, ends-at, walked, walk-meets}
 use denote.Exit.{yes}
-use Rattle.records.specs.declared.Record.{Record}
-use Rattle.records.specs.Records.{zeroRow}
-use Rattle.records.proofs.Record as T
-use Rattle.records.proofs.Record.Laws as T′
-use Rattle.records.proofs.zero_row as zero
-use Rattle.records.proofs.zero_row.Symbol as zero-def
-use Rattle.records.proofs.zero_row.Symbol.{name as #records·zero-row}
-use Rattle.records.proofs.zero_row.Met as zero-thm
+use Rattle.records_row.specs.declared.Record.{Record}
+use Rattle.records_row.specs.Row.{zeroRow}
+use Rattle.records_row.proofs.Record as T
+use Rattle.records_row.proofs.Record.Laws as T′
+use Rattle.records_row.proofs.zero_row as zero
+use Rattle.records_row.proofs.zero_row.Symbol as zero-def
+use Rattle.records_row.proofs.zero_row.Symbol.{name as #records-row·zero-row}
+use Rattle.records_row.proofs.zero_row.Met as zero-thm
 use Rattle.records.proofs.row.Key.{name as #records·row}
 use Rattle.records.proofs.row as row′
 use Rattle.records.proofs.row.Statement as stated
@@ -110,7 +110,7 @@ module _ {M : Type 1} (𝓤 : URA M) (H : Heap 𝓤) (A : Atoms 𝓤) (W : Given
   said : (r : Record) → ent 𝓤 (ensured 𝓤 H A zero.ended (zero.clauses 𝓤 H A mem run) tt tt tt r) (fact 𝓤 (r ≡ zeroRow))
   said r = exE 𝓤 _ (λ us. snd∗ 𝓤 (sem 𝓤 H A (lasts zero.ended tt tt us)) (fact 𝓤 (r ≡ zeroRow)))
 
-  module _ (C : Calls 𝓤 H) (Λ : Loops 𝓤 H) (fm : FmC 𝓤 H (W .laws) C) (known : Triple 𝓤 (C #records·zero-row) (Zero 𝓤 H A mem run)) where
+  module _ (C : Calls 𝓤 H) (Λ : Loops 𝓤 H) (fm : FmC 𝓤 H (W .laws) C) (known : Triple 𝓤 (C #records-row·zero-row) (Zero 𝓤 H A mem run)) where
     abbrev En : ℕ → ℕ → ℕ → ℕ → ℕ → ℕ → ℕ → Env 𝓤 H
     En l₀ l₁ l₂ l₃ l₄ l₅ l₆ = (T′.mir, l₀) ∷ (slice, l₁) ∷ (word, l₂) ∷ (word, l₃) ∷ (tyBool, l₄) ∷ (tyPtr, l₅) ∷ (T′.mir, l₆) ∷ []
 
@@ -151,13 +151,13 @@ module _ {M : Type 1} (𝓤 : URA M) (H : Heap 𝓤) (A : Atoms 𝓤) (W : Given
         move ! (2 ∷ 1 ∷ []) $ fjoin ! $ move ! (2 ∷ 0 ∷ []) $ fjoin ! $ owned ! T.the-row (Is T.the-row) ((LL.makes T.the-type T′.the-plain) 𝓤 H A) elem _ g $ move ! (2 ∷ 1 ∷ 3 ∷ 0 ∷ []) $ by ! (exits elem mach refl)))))))))))
 
 module _ {M : Type 1} (𝓤 : URA M) (H : Heap 𝓤) (A : Atoms 𝓤) (W : Given 𝓤 H A) (mem : Memory → SProp 𝓤) (run : Routine → Fun 𝓤) where
-  row-walks : (C : Calls 𝓤 H) (Λ : Loops 𝓤 H) → FmC 𝓤 H (W .laws) C → Triple 𝓤 (C #records·zero-row) (Zero 𝓤 H A mem run) → Walks 𝓤 H A row′.ended stayed (WpFn 𝓤 H C Λ code.function) (row′.clauses 𝓤 H A mem run)
+  row-walks : (C : Calls 𝓤 H) (Λ : Loops 𝓤 H) → FmC 𝓤 H (W .laws) C → Triple 𝓤 (C #records-row·zero-row) (Zero 𝓤 H A mem run) → Walks 𝓤 H A row′.ended stayed (WpFn 𝓤 H C Λ code.function) (row′.clauses 𝓤 H A mem run)
   row-walks C Λ fm known = walked 𝓤 H A row′.ended stayed (row′.clauses 𝓤 H A mem run) (WpFn 𝓤 H C Λ code.function)
       (λ κs. (slice-vals, (uint-vals w64, tt))) (λ κs. (shr-slice-tells (named 0) (κs .0) T.the-row, (uint-tells w64, tt)))
       (λ κs qs bounds a g are. via 𝓤 _ (fst∗ 𝓤 _ (emp 𝓤)) (walk 𝓤 H A W mem run (κs .0) (qs .0) (a .0 .ptr .0) (a .0 .ptr .1) (a .0 .name) (a .0 .now) (a .1 .0) C Λ fm known (are .0 .0 .1) (are .1 .0 .1)))
 
 row-meets : {M : Type 1} (𝓤 : URA M) (H : Heap 𝓤) (A : Atoms 𝓤) (W : Given 𝓤 H A) (mem : Memory → SProp 𝓤) (run : Routine → Fun 𝓤) (𝓣 : Tables 𝓤 H)
-    → Triple 𝓤 (𝓣 .C #records·zero-row) (Zero 𝓤 H A mem run)
+    → Triple 𝓤 (𝓣 .C #records-row·zero-row) (Zero 𝓤 H A mem run)
     → Meets 𝓤 H A row′.signature (WpFn 𝓤 H (𝓣 .C) (𝓣 .Λ) code.function) (row′.spec 𝓤 H A mem run)
 row-meets 𝓤 H A W mem run 𝓣 known =
     walk-meets 𝓤 H A row′.ended stayed W (goes-none-slice 𝓤 H A W 1 (0 ∷ []) tt (plain (λ _. T.the-row)) yes, (goes-none 𝓤 H A W 1 (λ _. usize) yes (λ κs x f. refl), tt)) (row′.clauses 𝓤 H A mem run)
@@ -169,4 +169,4 @@ row-spec 𝓤 H 𝓜 𝓖 𝓡 =
     entered 𝓤 H (tripleOf 𝓤 H (𝓖 .A) row′.signature (row′.spec 𝓤 H (𝓖 .A) (𝓜 .mem) (𝓡 .run)))
     (tables 𝓤 H 𝓜 𝓡 code.env .C) (tables 𝓤 H 𝓜 𝓡 code.env .Λ) #records·row code.function (code.unfolded 𝓤 H 𝓜 𝓡)
     (row-meets 𝓤 H (𝓖 .A) (givenOf 𝓤 H 𝓜 𝓖) (𝓜 .mem) (𝓡 .run) (tablesOf 𝓤 H 𝓜 (tables 𝓤 H 𝓜 𝓡 code.env))
-    (cited 𝓤 H (Zero 𝓤 H (𝓖 .A) (𝓜 .mem) (𝓡 .run)) 𝓜 𝓡 code.env #records·zero-row zero-def.routine code.calls-records·zero-row (zero-thm.met 𝓤 H 𝓜 𝓖 𝓡)))
+    (cited 𝓤 H (Zero 𝓤 H (𝓖 .A) (𝓜 .mem) (𝓡 .run)) 𝓜 𝓡 code.env #records-row·zero-row zero-def.routine code.calls-records-row·zero-row (zero-thm.met 𝓤 H 𝓜 𝓖 𝓡)))

@@ -43,9 +43,9 @@ use Rattle.format.specs.Bytes.{Answer}
 use Rattle.format.specs.Insn.{Insn}
 use Rattle.insn.specs.declared.FetchAnswer.{FetchAnswer}
 use Rattle.insn.specs.Answers.{answerOf}
-use Rattle.records.specs.declared.Record.{Record}
-use Rattle.records.proofs.Record as R
-use Rattle.records.proofs.Record.Laws as R′
+use Rattle.records_row.specs.declared.Record.{Record}
+use Rattle.records_row.proofs.Record as R
+use Rattle.records_row.proofs.Record.Laws as R′
 use Rattle.view.proofs.RecordView as T
 use Rattle.view.proofs.RecordView.Laws as T′
 use Rattle.insn.proofs.FetchAnswer as S

@@ -37,9 +37,9 @@ use denote.Triple.Table.{entered}
 use denote.Triple.Walked.{says, Stays, stay-none, stay-none-slice, walkOf, goes-none, goes-none-slice, Walks, ends-at, walked, walk-meets}
 use denote.Exit.{yes}
 use Rattle.view.specs.declared.RecordView.{RecordView}
-use Rattle.records.specs.declared.Record.{Record}
-use Rattle.records.proofs.Record as R
-use Rattle.records.proofs.Record.Laws as R′
+use Rattle.records_row.specs.declared.Record.{Record}
+use Rattle.records_row.proofs.Record as R
+use Rattle.records_row.proofs.Record.Laws as R′
 use Rattle.view.proofs.RecordView as T
 use Rattle.view.proofs.RecordView.Laws as T′
 use Rattle.view.proofs.RecordView.new.Key.{name as #view·new}

@@ -1,0 +1,2 @@
+pub mod FirstByte
+pub mod Sums
