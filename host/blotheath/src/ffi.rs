@@ -9,9 +9,6 @@ use crate::tables::{
     FILENAMES, FILES, HANDLERS, LINES, NAMES, POOL, RECORDS, STRINGS, SYMBOLS, Words,
 };
 
-/// Whether the answers are those of the proved archive.
-pub const PROVED: bool = true;
-
 unsafe extern "C" {
     fn blotheath_load(
         file: *const u8,

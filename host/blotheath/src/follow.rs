@@ -27,6 +27,23 @@ impl Choice {
             Choice::Leave => bytes.push(4),
         }
     }
+
+    /// The choice at the start of these bytes, and the bytes behind it; none where 21 would be answered.
+    pub fn read(bytes: &[u8]) -> Option<(Choice, &[u8])> {
+        let (kind, rest) = bytes.split_first()?;
+        let choice = match kind {
+            0 => Choice::GoOn,
+            1 => Choice::Jump,
+            2 => Choice::Enter,
+            3 => {
+                let (handler, rest) = rest.split_first_chunk()?;
+                return Some((Choice::Caught(u16::from_be_bytes(*handler)), rest));
+            }
+            4 => Choice::Leave,
+            _ => return None,
+        };
+        Some((choice, rest))
+    }
 }
 
 /// The bytes of a list of choices.

@@ -11,16 +11,18 @@ pub mod ffi;
 #[path = "by_model.rs"]
 pub mod ffi;
 mod follow;
+mod identity;
 mod locate;
 mod opcode;
 mod pattern;
 mod refusal;
+mod run;
 mod step;
 pub mod tables;
 mod tree;
 
-pub use ffi::PROVED;
 pub use follow::{Choice, Frame, Standing, bytes_of, follow};
+pub use identity::{DOUBT, IDENTITY, Identity, PROVED};
 pub use locate::{Place, locate};
 pub use opcode::{Flow, Role, flow, name as opcode_name, roles};
 pub use pattern::{
@@ -28,6 +30,7 @@ pub use pattern::{
     line_at, load,
 };
 pub use refusal::Refusal;
+pub use run::{Before, Run};
 pub use step::{BadStep, Kind, Step, Steps};
 pub use tree::{Node, Tree};
 

@@ -19,7 +19,7 @@ fn main() -> ExitCode {
         // The thread has told its panic.
         Ok(Err(_)) => return ExitCode::from(101),
         Err(error) => {
-            command::complain(&error.to_string());
+            command::complain_of(&error);
             Status::Unusable
         }
     };
@@ -33,7 +33,7 @@ fn run() -> Status {
         // Whoever reads the output has closed it.
         Err(error) if error.kind() == std::io::ErrorKind::BrokenPipe => Status::Unusable,
         Err(error) => {
-            command::complain(&error.to_string());
+            command::complain_of(&error);
             Status::Unusable
         }
     }

@@ -77,6 +77,12 @@ fn tries(length: usize) -> impl Iterator<Item = [usize; 9]> {
     std::iter::once(usual(length)).chain(more.map(move |overlap| rows(length, overlap)))
 }
 
+/// The most rows that are lent for a file of this length.
+pub fn most_rows(length: usize) -> [usize; 9] {
+    let most = tries(length).last();
+    most.expect("there is at least one size to try")
+}
+
 /// Tables of zeros with so many rows.
 pub fn zeros(rows: [usize; 9]) -> Words {
     std::array::from_fn(|t| vec![0; rows[t] * ROW_WORDS[t]])

@@ -114,7 +114,7 @@ fn refusals_have_places() {
         let file = build::one(code, &[], &[b"s"]);
         let refusal = examine(&file).unwrap_err();
         let pattern = load(&file).unwrap();
-        let place = locate(&pattern, refusal).unwrap();
+        let place = locate(&file, Some(&pattern), refusal).unwrap();
         (refusal.number(), place.record, place.offset)
     };
     assert_eq!(place(&[]), (16, Some(0), Some(0)));
@@ -142,9 +142,16 @@ fn the_search_agrees_with_the_verdict() {
         match load(&file) {
             Ok(pattern) => {
                 assert!(refusal.is_of_examination(), "{refusal}");
-                assert!(locate(&pattern, refusal).is_some(), "{refusal} {file:?}");
+                assert!(
+                    locate(&file, Some(&pattern), refusal).is_some(),
+                    "{refusal} {file:?}"
+                );
                 let others = (15..=20).map(Refusal).filter(|other| *other != refusal);
-                assert!(others.into_iter().all(|o| locate(&pattern, o).is_none()));
+                assert!(
+                    others
+                        .into_iter()
+                        .all(|o| locate(&file, Some(&pattern), o).is_none())
+                );
             }
             Err(other) => assert_eq!(refusal, other),
         }
@@ -162,7 +169,7 @@ fn one_register_too_many_in_the_last_of_many_records() {
     let file = build::shared_code(17);
     let refusal = examine(&file).unwrap_err();
     assert_eq!(refusal, Refusal(17));
-    let place = locate(&load(&file).unwrap(), refusal).unwrap();
+    let place = locate(&file, load(&file).ok().as_ref(), refusal).unwrap();
     assert_eq!(place.record, Some(records as u32 - 1));
 }
 

@@ -1,6 +1,8 @@
 //! The words of the command line.
 
-use std::ffi::OsString;
+use super::text;
+use std::ffi::{OsStr, OsString};
+use std::os::unix::ffi::OsStrExt;
 use std::path::PathBuf;
 
 /// A command with its options.
@@ -20,12 +22,14 @@ pub enum Command {
     },
     Steps {
         path: PathBuf,
+        source: Option<PathBuf>,
         json: bool,
         all: bool,
     },
     Follow {
         path: PathBuf,
         choices: Vec<String>,
+        source: Option<PathBuf>,
         json: bool,
         each: bool,
     },
@@ -33,6 +37,7 @@ pub enum Command {
         path: PathBuf,
         output: Option<PathBuf>,
         source: Option<PathBuf>,
+        force: bool,
     },
 }
 
@@ -43,6 +48,7 @@ struct Words {
     json: bool,
     all: bool,
     each: bool,
+    force: bool,
     help: bool,
     output: Option<PathBuf>,
     source: Option<PathBuf>,
@@ -52,10 +58,16 @@ struct Words {
 const OPTIONS: [(&str, &[&str]); 5] = [
     ("examine", &["--json"]),
     ("load", &["--json", "--all"]),
-    ("steps", &["--json", "--all"]),
-    ("follow", &["--json", "--each"]),
-    ("report", &["-o", "--source"]),
+    ("steps", &["--json", "--all", "--source"]),
+    ("follow", &["--json", "--each", "--source"]),
+    ("report", &["-o", "--output", "--source", "--force"]),
 ];
+
+/// The options that have a value behind them.
+const VALUED: [&str; 3] = ["-o", "--output", "--source"];
+
+/// What stands in place of a command.
+const GENERAL: [&str; 5] = ["help", "--help", "-h", "--version", "-V"];
 
 /// Reads the command line.
 pub fn read(words: &[OsString]) -> Result<Command, String> {
@@ -70,7 +82,7 @@ pub fn read(words: &[OsString]) -> Result<Command, String> {
         _ => {}
     }
     let Some((_, options)) = OPTIONS.iter().find(|(command, _)| *command == name) else {
-        return Err(format!("there is no command {name:?}"));
+        return Err(no_command(&name));
     };
     let words = sort(&name, rest, options)?;
     if words.help {
@@ -87,7 +99,55 @@ fn help(rest: &[OsString]) -> Result<Command, String> {
     if OPTIONS.iter().any(|(command, _)| *command == topic) {
         return Ok(Command::Help(Some(topic)));
     }
-    Err(format!("there is no command {topic:?}"))
+    Err(no_command(&topic))
+}
+
+fn no_command(name: &str) -> String {
+    let known = OPTIONS.iter().map(|(command, _)| *command);
+    let hint = meant(name, known.chain(GENERAL));
+    format!("there is no command {}{hint}", text::word(name))
+}
+
+/// A question for the known word that is nearest to an unknown one, where one is near.
+fn meant<'k>(word: &str, known: impl Iterator<Item = &'k str>) -> String {
+    let length = word.chars().count();
+    let near = known
+        .map(|known| (distance(word, known), known))
+        .filter(|(distance, _)| 3 * distance <= length)
+        .min();
+    match near {
+        Some((_, known)) => format!("; did you mean {known}?"),
+        None => String::new(),
+    }
+}
+
+/// How many letters have to be put in, taken out, changed or swapped with the next to make one word of the other.
+fn distance(from: &str, to: &str) -> usize {
+    let (from, to): (Vec<char>, Vec<char>) =
+        (from.chars().take(32).collect(), to.chars().collect());
+    let mut costs = vec![vec![0; to.len() + 1]; from.len() + 1];
+    for row in 0..=from.len() {
+        for column in 0..=to.len() {
+            costs[row][column] = match (row, column) {
+                (0, number) | (number, 0) => number,
+                _ => {
+                    let changed = usize::from(from[row - 1] != to[column - 1]);
+                    let mut cost = (costs[row - 1][column - 1] + changed)
+                        .min(costs[row - 1][column] + 1)
+                        .min(costs[row][column - 1] + 1);
+                    if row > 1
+                        && column > 1
+                        && from[row - 2] == to[column - 1]
+                        && from[row - 1] == to[column - 2]
+                    {
+                        cost = cost.min(costs[row - 2][column - 2] + 1);
+                    }
+                    cost
+                }
+            };
+        }
+    }
+    costs[from.len()][to.len()]
 }
 
 /// Sorts the words behind a command; behind `--` all are plain.
@@ -95,39 +155,64 @@ fn sort(command: &str, rest: &[OsString], options: &[&str]) -> Result<Words, Str
     let mut words = Words::default();
     let mut rest = rest.iter();
     while let Some(word) = rest.next() {
-        let text = word.to_string_lossy();
-        if text == "--" {
+        let bytes = word.as_bytes();
+        if bytes == b"--" {
             words.plain.extend(rest.by_ref().cloned());
-        } else if text == "-" || !text.starts_with('-') {
+        } else if bytes == b"-" || !bytes.starts_with(b"-") {
             words.plain.push(word.clone());
-        } else if text == "--help" || text == "-h" {
-            words.help = true;
-        } else if !options.contains(&text.as_ref()) {
-            return Err(format!("{command} has no option {text:?}"));
         } else {
-            option(&mut words, &text, &mut rest)?;
+            let (name, value) = parted(word);
+            let name = name.to_string_lossy();
+            if name == "--help" || name == "-h" {
+                words.help = true;
+            } else if !options.contains(&name.as_ref()) {
+                let hint = meant(&name, options.iter().copied());
+                let name = text::word(&name);
+                return Err(format!("{command} has no option {name}{hint}"));
+            } else {
+                option(&mut words, &name, value, &mut rest)?;
+            }
         }
     }
     Ok(words)
 }
 
+/// A long option and the value behind its equals sign.
+fn parted(word: &OsStr) -> (&OsStr, Option<&OsStr>) {
+    let bytes = word.as_bytes();
+    match bytes.iter().position(|byte| *byte == b'=') {
+        Some(place) if bytes.starts_with(b"--") => (
+            OsStr::from_bytes(&bytes[..place]),
+            Some(OsStr::from_bytes(&bytes[place + 1..])),
+        ),
+        _ => (word, None),
+    }
+}
+
 fn option<'a>(
     words: &mut Words,
     name: &str,
+    value: Option<&OsStr>,
     rest: &mut impl Iterator<Item = &'a OsString>,
 ) -> Result<(), String> {
-    match name {
-        "--json" => words.json = true,
-        "--all" => words.all = true,
-        "--each" => words.each = true,
-        _ => {
-            let value = rest.next().ok_or(format!("{name} has no value"))?;
-            let value = Some(PathBuf::from(value));
-            match name {
-                "-o" => words.output = value,
-                _ => words.source = value,
-            }
+    if !VALUED.contains(&name) {
+        if value.is_some() {
+            return Err(format!("{name} takes no value"));
         }
+        match name {
+            "--json" => words.json = true,
+            "--all" => words.all = true,
+            "--each" => words.each = true,
+            _ => words.force = true,
+        }
+        return Ok(());
+    }
+    let value = value.or_else(|| rest.next().map(OsString::as_os_str));
+    let value = value.filter(|value| !value.is_empty());
+    let value = Some(PathBuf::from(value.ok_or(format!("{name} has no value"))?));
+    match name {
+        "--source" => words.source = value,
+        _ => words.output = value,
     }
     Ok(())
 }
@@ -147,12 +232,18 @@ fn build(name: &str, words: Words) -> Result<Command, String> {
             }
         }
         "load" => Command::Load { path, json, all },
-        "steps" => Command::Steps { path, json, all },
+        "steps" => Command::Steps {
+            path,
+            source: words.source,
+            json,
+            all,
+        },
         "follow" => {
             let choices = plain.by_ref().map(|word| word.to_string_lossy().into());
             Command::Follow {
                 path,
                 choices: choices.collect(),
+                source: words.source,
                 json,
                 each,
             }
@@ -161,6 +252,7 @@ fn build(name: &str, words: Words) -> Result<Command, String> {
             path,
             output: words.output,
             source: words.source,
+            force: words.force,
         },
     };
     match plain.next() {
@@ -196,12 +288,45 @@ mod tests {
             json: false,
         };
         assert_eq!(parse("examine - -- --json"), Ok(examine));
-        let report = Command::Report {
-            path,
-            output: Some("b".into()),
-            source: None,
+        let report = || {
+            Ok(Command::Report {
+                path: path.clone(),
+                output: Some("b".into()),
+                source: Some("c=d".into()),
+                force: true,
+            })
         };
-        assert_eq!(parse("report a -o b"), Ok(report));
+        for line in [
+            "report a -o b --source c=d --force",
+            "report --force --output=b --source=c=d a",
+            "report --output b a --source=c=d --force",
+        ] {
+            assert_eq!(parse(line), report(), "{line}");
+        }
+    }
+
+    #[test]
+    fn near_words() {
+        for (line, hint) in [
+            ("examin a", "; did you mean examine?"),
+            ("reprot a", "; did you mean report?"),
+            ("laod a", "; did you mean load?"),
+            ("help stesp", "; did you mean steps?"),
+            ("--versoin", "; did you mean --version?"),
+            ("load --jsn a", "; did you mean --json?"),
+            ("report a --ouput=b", "; did you mean --output?"),
+            ("follow a --eahc", "; did you mean --each?"),
+        ] {
+            let fault = parse(line).unwrap_err();
+            assert!(fault.ends_with(hint), "{line}: {fault}");
+        }
+        for line in ["look a", "x", "load -j a", "load --each a"] {
+            let fault = parse(line).unwrap_err();
+            assert!(!fault.contains("did you mean"), "{line}: {fault}");
+        }
+        let long = "é".repeat(70_000);
+        assert!(parse(&long).unwrap_err().len() < 200);
+        assert_eq!(distance("abc", "acbd"), 2);
     }
 
     #[test]
@@ -214,6 +339,9 @@ mod tests {
             "load --each a",
             "load --what a",
             "report a -o",
+            "report a --output=",
+            "load --json=yes a",
+            "load --source a b",
             "report a b",
             "help look",
         ] {

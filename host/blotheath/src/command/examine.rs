@@ -5,7 +5,7 @@ use super::json::Json;
 use super::style::Style;
 use super::text::{self, counted};
 use super::verdict::{Verdict, judge};
-use super::{Status, complain, tell};
+use super::{Status, complain, identity, tell};
 use std::io::{self, IsTerminal, Write};
 use std::path::PathBuf;
 
@@ -39,11 +39,16 @@ pub fn run(out: &mut dyn Write, style: Style, paths: &[PathBuf], json: bool) -> 
     for file in &found {
         progress.draw(out)?;
         let name = text::path(&file.path);
-        let verdict = bytes(file);
-        let verdict = verdict.as_ref().map(|bytes| judge(bytes));
+        let bytes = bytes(file);
+        let verdict = bytes.as_ref().map(|bytes| (bytes, judge(bytes)));
         progress.erase();
         match verdict {
-            Ok(verdict) => write_verdict(out, style, &name, &verdict, &mut tally)?,
+            Ok((bytes, verdict)) => {
+                write_verdict(out, style, &name, &verdict, &mut tally)?;
+                if let (1, Some(byte)) = (found.len(), verdict.byte()) {
+                    write_around(out, style, bytes, byte)?;
+                }
+            }
             Err(fault) => {
                 tally.unread += 1;
                 out.flush()?;
@@ -61,8 +66,8 @@ pub fn run(out: &mut dyn Write, style: Style, paths: &[PathBuf], json: bool) -> 
 /// The bytes of a file that was found.
 fn bytes(found: &Found) -> Result<Vec<u8>, String> {
     match &found.fault {
-        Some(fault) => Err(fault.to_string()),
-        None => input::read(&found.path).map_err(|fault| fault.to_string()),
+        Some(fault) => Err(text::fault(fault)),
+        None => input::read(&found.path).map_err(|fault| text::fault(&fault)),
     }
 }
 
@@ -83,6 +88,35 @@ fn write_verdict(
     }
 }
 
+/// The bytes that a line of hexadecimal digits shows.
+const LINE: usize = 16;
+
+/// Writes the line of bytes around a place, the one before it and the one behind it, the place in brackets.
+fn write_around(out: &mut dyn Write, style: Style, bytes: &[u8], place: usize) -> io::Result<()> {
+    let middle = place / LINE * LINE;
+    for start in [middle.checked_sub(LINE), Some(middle), Some(middle + LINE)] {
+        let Some(start) = start.filter(|start| *start == middle || *start < bytes.len()) else {
+            continue;
+        };
+        let mut line = format!("{start:>9} ");
+        for at in start..start + LINE {
+            let digits = match bytes.get(at) {
+                Some(byte) => format!("{byte:02x}"),
+                None => "  ".to_owned(),
+            };
+            if at == place {
+                line += &style.bad(&format!("[{digits}]"));
+            } else if at == place + 1 && at > start {
+                line += &digits;
+            } else {
+                line += &format!(" {digits}");
+            }
+        }
+        writeln!(out, "{}", line.trim_end())?;
+    }
+    Ok(())
+}
+
 fn summary(tally: &Tally) -> String {
     let files = tally.passed + tally.refused + tally.unread;
     let mut summary = format!(
@@ -101,7 +135,7 @@ fn write_json(out: &mut dyn Write, found: &[Found]) -> io::Result<Status> {
     let mut tally = Tally::default();
     let mut json = Json::new(out);
     json.object(|json| {
-        json.key("proved")?.boolean(blotheath::PROVED)?;
+        identity::members(json)?;
         json.key("files")?.array(|json| {
             for file in found {
                 json.line()?;

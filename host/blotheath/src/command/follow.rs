@@ -1,14 +1,17 @@
 //! `blotheath follow`: a run along choices.
 
+use super::beside::{self, Beside};
+use super::choices::{self, Choices, told};
 use super::json::Json;
 use super::meaning::{Meaning, Reader};
+use super::source::Source;
 use super::style::Style;
-use super::text;
-use super::verdict::{Verdict, judge};
+use super::text::{self, counted};
+use super::verdict::judge;
 use super::{Status, complain, input, unusable};
 use blotheath::{
-    Choice, Flow, Frame, Pattern, Refusal, Role, Standing, Step, Tree, bytes_of, flow, opcode_name,
-    roles,
+    Before, Choice, Flow, Frame, Pattern, Refusal, Role, Run, Standing, Step, Tree, flow,
+    opcode_name, roles,
 };
 use std::io::{self, BufRead, IsTerminal, Write};
 use std::path::Path;
@@ -18,6 +21,7 @@ pub fn run(
     style: Style,
     path: &Path,
     words: &[String],
+    source: Option<&Path>,
     json: bool,
     each: bool,
 ) -> io::Result<Status> {
@@ -27,8 +31,8 @@ pub fn run(
         complain("a pattern from standard input needs choices");
         return Ok(Status::Unusable);
     }
-    let lists = match read_choices(words) {
-        Ok(lists) => lists,
+    let choices = match choices::read(words) {
+        Ok(choices) => choices,
         Err(fault) => {
             complain(&fault);
             return Ok(Status::Unusable);
@@ -38,173 +42,207 @@ pub fn run(
         Ok(file) => file,
         Err(fault) => return Ok(unusable(&name, &fault)),
     };
+    let source = match source.map(Source::read).transpose() {
+        Ok(source) => source,
+        Err((name, fault)) => return Ok(unusable(&name, &fault)),
+    };
+    let source = source.as_ref();
+    // The archive answers before the tables of the steps are there, which may take as much memory.
+    let answer = blotheath::follow(&file, choices.bytes());
     if json {
-        return write_json(out, path, &file, &lists, each);
+        return write_json(out, path, &file, source, &choices, each, answer);
     }
-    let verdict = judge(&file);
-    let Verdict::Passes(pattern) = &verdict else {
-        writeln!(out, "{name}: {}", style.bad(&verdict.sentence()))?;
-        return Ok(Status::Refused);
-    };
-    let tree = Tree::of(pattern);
-    let mut view = View {
-        out,
-        style,
-        reader: Reader {
-            pattern,
-            tree: &tree,
-        },
-    };
-    if asks {
-        return view.ask();
+    match answer {
+        Err(refusal) => refused(out, style, &name, &file, refusal),
+        Ok(_) if asks => ask(out, style, &file, source),
+        Ok(answer) => list(out, style, &file, source, &choices, each, &answer),
     }
-    view.list(&lists, each)
 }
 
-/// The bytes of the choices, one list a choice.
-type Lists = Vec<Vec<u8>>;
+/// Says why there is no run.
+fn refused(
+    out: &mut dyn Write,
+    style: Style,
+    name: &str,
+    file: &[u8],
+    refusal: Refusal,
+) -> io::Result<Status> {
+    let sentence = match refusal.number() {
+        21 => refusal.to_string(),
+        _ => format!("{name}: {}", judge(file).sentence()),
+    };
+    writeln!(out, "{}", style.bad(&sentence))?;
+    Ok(Status::Refused)
+}
 
-/// The longest list of choices, in bytes.
-const MOST_BYTES: usize = 1 << 20;
+/// Who answers for a whole list of choices.
+const ANSWERER: &str = match cfg!(feature = "model") {
+    true => "model",
+    false => "archive",
+};
 
-/// Reads choices in words, or as bytes behind the word `bytes`.
-fn read_choices(words: &[String]) -> Result<Lists, String> {
-    if let Some((first, rest)) = words.split_first()
-        && first == "bytes"
-    {
-        return read_bytes(&rest.concat());
+/// Tells that the steps of this program do not lead where the archive says.
+fn differs() -> Status {
+    complain(&format!(
+        "the {ANSWERER} answers another end than the steps of this program: trust none of them, and report this fault"
+    ));
+    Status::Unusable
+}
+
+/// A choice that was not open, and the frame and step where that was; none in a run that was finished.
+struct Missed {
+    number: usize,
+    choice: Choice,
+    at: Option<(Frame, &'static str)>,
+}
+
+impl Missed {
+    fn told(&self) -> String {
+        let choice = told(self.choice);
+        match (self.at, self.choice) {
+            (None, _) => format!("the run is finished: {choice} does nothing"),
+            (Some((frame, _)), Choice::Caught(_)) => {
+                format!("{choice} is not open in record {}: went on", frame.record)
+            }
+            (Some((_, name)), _) => format!("{choice} is not open at {name}: went on"),
+        }
     }
-    let joined = words.join(" ");
-    let mut words = joined.split_whitespace();
-    let mut lists = Lists::new();
-    while let Some(word) = words.next() {
-        let (times, word) = match word.parse::<usize>() {
-            Ok(times) => (
-                times,
-                words.next().ok_or("a number of times has no choice")?,
-            ),
-            Err(_) => (1, word),
+}
+
+/// Takes a choice; answers it where it was not open.
+fn take(run: &mut Run, number: usize, choice: Choice) -> Option<Missed> {
+    let name = run.step().and_then(|step| opcode_name(step.opcode));
+    let at = run.top().zip(Some(name.unwrap_or_default()));
+    match run.take(choice) {
+        true => None,
+        false => Some(Missed { number, choice, at }),
+    }
+}
+
+/// The most choices of a list that are told one by one when they were not open.
+const MOST_MISSED: usize = 5;
+
+/// The choices of a list that were not open: the first few, and how many.
+#[derive(Default)]
+struct Misses {
+    first: Vec<Missed>,
+    number: usize,
+}
+
+impl Misses {
+    fn add(&mut self, missed: Option<Missed>) {
+        self.number += usize::from(missed.is_some());
+        if self.first.len() < MOST_MISSED {
+            self.first.extend(missed);
+        }
+    }
+
+    fn write(&self, out: &mut dyn Write, style: Style) -> io::Result<()> {
+        for missed in &self.first {
+            let text = format!("choice {}: {}", missed.number, missed.told());
+            writeln!(out, "{}", style.bad(&text))?;
+        }
+        let more = self.number - self.first.len();
+        if more > 0 {
+            let text = format!("{}: not open", counted(more as u64, "more choice"));
+            writeln!(out, "{}", style.bad(&text))?;
+        }
+        Ok(())
+    }
+}
+
+/// Runs along a list, and shows its end or the frames after each choice.
+fn list(
+    out: &mut dyn Write,
+    style: Style,
+    file: &[u8],
+    source: Option<&Source>,
+    choices: &Choices,
+    each: bool,
+    answer: &Standing,
+) -> io::Result<Status> {
+    let pattern = blotheath::load(file).map_err(io::Error::other)?;
+    let tree = Tree::of(&pattern);
+    let mut run = Run::new(&pattern, &tree);
+    let mut view = View::new(out, style, &pattern, &tree, source);
+    let mut misses = Misses::default();
+    for (number, choice) in (1..).zip(choices.iter()) {
+        if !each {
+            misses.add(take(&mut run, number, choice));
+            continue;
+        }
+        view.show(run.frames())?;
+        let title = format!("{number}. {}", told(choice));
+        writeln!(view.out, "{}", style.bold(&title))?;
+        if let Some(missed) = take(&mut run, number, choice) {
+            writeln!(view.out, "{}", style.bad(&missed.told()))?;
+        }
+    }
+    if run.standing() != *answer {
+        view.out.flush()?;
+        return Ok(differs());
+    }
+    misses.write(view.out, style)?;
+    view.show(run.frames())?;
+    Ok(Status::Passed)
+}
+
+/// Asks for choices one by one, and at the end asks the archive for them all.
+fn ask(
+    out: &mut dyn Write,
+    style: Style,
+    file: &[u8],
+    source: Option<&Source>,
+) -> io::Result<Status> {
+    let (done, standing) = {
+        let pattern = blotheath::load(file).map_err(io::Error::other)?;
+        let tree = Tree::of(&pattern);
+        let mut asked = Asked {
+            run: Run::new(&pattern, &tree),
+            done: Choices::default(),
+            taken: Vec::new(),
         };
-        let choice = read_choice(word, || words.next())?;
-        if times > MOST_BYTES || lists.len() + times > MOST_BYTES {
-            return Err("these are too many choices".to_owned());
-        }
-        lists.extend(std::iter::repeat_n(bytes_of(&[choice]), times));
+        asked.all(&mut View::new(out, style, &pattern, &tree, source))?;
+        (asked.done, asked.run.standing())
+    };
+    if blotheath::follow(file, done.bytes()) != Ok(standing) {
+        out.flush()?;
+        return Ok(differs());
     }
-    Ok(lists)
+    let number = counted(done.number() as u64, "choice");
+    let text = format!("{number}: the {ANSWERER} answers the same end");
+    writeln!(out, "{}", style.dim(&text))?;
+    Ok(Status::Passed)
 }
 
-fn read_choice<'w>(word: &str, next: impl FnOnce() -> Option<&'w str>) -> Result<Choice, String> {
-    match word {
-        "go" | "g" => Ok(Choice::GoOn),
-        "jump" | "j" => Ok(Choice::Jump),
-        "enter" | "e" => Ok(Choice::Enter),
-        "leave" | "l" => Ok(Choice::Leave),
-        "caught" | "c" => {
-            let handler = next().ok_or("caught has no handler's number")?;
-            let number = handler.parse();
-            Ok(Choice::Caught(number.map_err(|_| {
-                format!("{handler:?} is no handler's number")
-            })?))
-        }
-        word => Err(format!("there is no choice {word:?}")),
-    }
-}
-
-/// Reads choices as hexadecimal digits; a list that cannot be split into choices is kept whole for the verdict.
-fn read_bytes(digits: &str) -> Result<Lists, String> {
-    let fault = || format!("{digits:?} are no bytes of two hexadecimal digits each");
-    if !digits.len().is_multiple_of(2) || !digits.bytes().all(|digit| digit.is_ascii_hexdigit()) {
-        return Err(fault());
-    }
-    let bytes: Result<Vec<u8>, _> = (0..digits.len() / 2)
-        .map(|index| u8::from_str_radix(&digits[2 * index..2 * index + 2], 16))
-        .collect();
-    let bytes = bytes.map_err(|_| fault())?;
-    if bytes.len() > MOST_BYTES {
-        return Err("these are too many choices".to_owned());
-    }
-    let mut lists = Lists::new();
-    let mut rest = &bytes[..];
-    while let Some(kind) = rest.first() {
-        let length = if *kind == 3 { 3 } else { 1 };
-        let (choice, behind) = rest.split_at(length.min(rest.len()));
-        lists.push(choice.to_vec());
-        rest = behind;
-    }
-    Ok(lists)
-}
-
-/// A choice in words.
-fn told(bytes: &[u8]) -> String {
-    match bytes {
-        [0] => "go".to_owned(),
-        [1] => "jump".to_owned(),
-        [2] => "enter".to_owned(),
-        [3, high, low] => format!("caught {}", u16::from_be_bytes([*high, *low])),
-        [4] => "leave".to_owned(),
-        bytes => format!("bytes {}", text::hex(bytes, 8)),
-    }
-}
-
-/// The instruction at a frame.
-fn step_at(pattern: &Pattern, frame: Frame) -> Option<Step> {
-    let code = pattern.instructions(frame.record).ok()?.bytes;
-    let rest = code.get(frame.offset as usize..)?;
-    let mut step = blotheath::Steps::new(rest).next()?.ok()?;
-    step.offset += frame.offset;
-    step.next += frame.offset;
-    Some(step)
-}
-
-/// Shows a run.
+/// Shows frames.
 struct View<'w, 'p, 'a> {
     out: &'w mut dyn Write,
     style: Style,
     reader: Reader<'p, 'a>,
+    beside: Option<Beside<'p, 'a>>,
 }
 
-impl View<'_, '_, '_> {
-    fn file(&self) -> &[u8] {
-        self.reader.pattern.file()
-    }
-
-    /// Runs along the whole list, or along each of its beginnings.
-    fn list(&mut self, lists: &Lists, each: bool) -> io::Result<Status> {
-        if each {
-            for number in 0..lists.len() {
-                let done = lists[..number].concat();
-                if !self.follow(&done)? {
-                    return Ok(Status::Refused);
-                }
-                let choice = format!("{}. {}", number + 1, told(&lists[number]));
-                writeln!(self.out, "{}", self.style.bold(&choice))?;
-            }
-        }
-        Ok(match self.follow(&lists.concat())? {
-            true => Status::Passed,
-            false => Status::Refused,
-        })
-    }
-
-    /// Shows where the run stands; false where it is refused.
-    fn follow(&mut self, choices: &[u8]) -> io::Result<bool> {
-        match blotheath::follow(self.file(), choices) {
-            Ok(standing) => {
-                self.show(&standing)?;
-                Ok(true)
-            }
-            Err(refusal) => {
-                writeln!(self.out, "{}", self.style.bad(&refusal.to_string()))?;
-                Ok(false)
-            }
+impl<'w, 'p, 'a> View<'w, 'p, 'a> {
+    fn new(
+        out: &'w mut dyn Write,
+        style: Style,
+        pattern: &'p Pattern<'a>,
+        tree: &'p Tree,
+        source: Option<&'p Source>,
+    ) -> View<'w, 'p, 'a> {
+        View {
+            out,
+            style,
+            reader: Reader { pattern, tree },
+            beside: Beside::of(source, pattern),
         }
     }
 
-    fn show(&mut self, standing: &Standing) -> io::Result<()> {
-        let Standing::At { frames, .. } = standing else {
+    fn show(&mut self, frames: &[Frame]) -> io::Result<()> {
+        if frames.is_empty() {
             return writeln!(self.out, "{}", self.style.good("the run is finished"));
-        };
+        }
         for (depth, frame) in frames.iter().enumerate() {
             let is_top = depth + 1 == frames.len();
             let line = self.frame(*frame, is_top);
@@ -213,20 +251,24 @@ impl View<'_, '_, '_> {
         Ok(())
     }
 
-    /// A frame in one line: where it stands and the instruction there.
+    /// A frame in one line: where it stands, the instruction there, and the source's line.
     fn frame(&self, frame: Frame, is_top: bool) -> String {
         let pattern = self.reader.pattern;
         let line = match pattern.line(frame.record, frame.offset) {
             Ok(Some(line)) => format!("line {line}"),
             _ => "no line".to_owned(),
         };
-        let step = match step_at(pattern, frame) {
+        let step = match pattern.step_at(frame) {
             Some(step) => self.step(frame.record, &step),
             None => String::new(),
         };
         let place = format!("record {}, offset {}, {line}", frame.record, frame.offset);
         let mark = if is_top { "▶" } else { " " };
-        let text = format!("  {mark} {place:<36} {step}");
+        let mut text = format!("  {mark} {place:<36} {step}");
+        if let Some(beside) = &self.beside {
+            let width = text.chars().count();
+            text += &beside.behind(width, frame.record, frame.offset, text::LINE);
+        }
         match is_top {
             true => text.trim_end().to_owned(),
             false => self.style.dim(text.trim_end()),
@@ -248,7 +290,7 @@ impl View<'_, '_, '_> {
     /// The choices that are open at a frame, in words.
     fn open(&self, frame: Frame) -> String {
         let mut open = vec!["go".to_owned()];
-        if let Some(step) = step_at(self.reader.pattern, frame) {
+        if let Some(step) = self.reader.pattern.step_at(frame) {
             if flow(step.opcode) == Flow::MayJump {
                 open.push("jump".to_owned());
             }
@@ -265,63 +307,75 @@ impl View<'_, '_, '_> {
         open.push("leave".to_owned());
         open.join(", ")
     }
+}
 
-    /// Asks for choices one by one.
-    fn ask(&mut self) -> io::Result<Status> {
+/// A run along choices that are asked for.
+struct Asked<'p, 'a> {
+    run: Run<'p, 'a>,
+    done: Choices,
+    /// Each choice with the frames that it could change, to take it back.
+    taken: Vec<(Before, Choice)>,
+}
+
+impl Asked<'_, '_> {
+    /// Asks up to the end of the answers.
+    fn all(&mut self, view: &mut View) -> io::Result<()> {
         let is_terminal = io::stdin().is_terminal();
-        let mut done = Lists::new();
         let help = "go, jump, enter, caught N, leave; back takes one back, quit ends";
-        writeln!(self.out, "{}", self.style.dim(help))?;
+        writeln!(view.out, "{}", view.style.dim(help))?;
         loop {
-            let standing = match blotheath::follow(self.file(), &done.concat()) {
-                Ok(standing) => standing,
-                Err(refusal) => return self.refused(refusal),
-            };
-            self.show(&standing)?;
-            if let Standing::At { top, .. } = standing {
-                let open = format!("  open: {}", self.open(top));
-                writeln!(self.out, "{}", self.style.dim(&open))?;
+            view.show(self.run.frames())?;
+            if let Some(top) = self.run.top() {
+                let open = format!("  open: {}", view.open(top));
+                writeln!(view.out, "{}", view.style.dim(&open))?;
             }
             if is_terminal {
-                write!(self.out, "> ")?;
+                write!(view.out, "> ")?;
             }
-            self.out.flush()?;
-            if !self.answer(&mut done)? {
-                return Ok(Status::Passed);
+            view.out.flush()?;
+            match self.answer()? {
+                Some(misses) => misses.write(view.out, view.style)?,
+                None => return Ok(()),
             }
         }
     }
 
-    fn refused(&mut self, refusal: Refusal) -> io::Result<Status> {
-        writeln!(self.out, "{}", self.style.bad(&refusal.to_string()))?;
-        Ok(Status::Refused)
-    }
-
-    /// Takes one answer; false at the end of the answers.
-    fn answer(&mut self, done: &mut Lists) -> io::Result<bool> {
+    /// Takes one answer and says which of its choices were not open; none at the end of the answers.
+    fn answer(&mut self) -> io::Result<Option<Misses>> {
         loop {
             let Some(line) = read_line()? else {
-                return Ok(false);
+                return Ok(None);
             };
-            match line.trim() {
-                "quit" | "q" => return Ok(false),
+            let line = match line.trim() {
+                "quit" | "q" => return Ok(None),
                 "back" | "b" => {
-                    done.pop();
-                    return Ok(true);
+                    self.back();
+                    return Ok(Some(Misses::default()));
                 }
-                "" => {
-                    done.push(bytes_of(&[Choice::GoOn]));
-                    return Ok(true);
-                }
-                line => match read_choices(&[line.to_owned()]) {
-                    Ok(lists) if done.len() + lists.len() <= MOST_BYTES => {
-                        done.extend(lists);
-                        return Ok(true);
-                    }
-                    Ok(_) => complain("these are too many choices"),
-                    Err(fault) => complain(&fault),
-                },
+                "" => "go",
+                line => line,
+            };
+            match choices::read(&[line.to_owned()]).and_then(|more| self.take(&more)) {
+                Ok(misses) => return Ok(Some(misses)),
+                Err(fault) => complain(&fault),
             }
+        }
+    }
+
+    fn take(&mut self, more: &Choices) -> Result<Misses, String> {
+        self.done.append(more)?;
+        let mut misses = Misses::default();
+        for choice in more.iter() {
+            self.taken.push((self.run.before(), choice));
+            misses.add(take(&mut self.run, self.taken.len(), choice));
+        }
+        Ok(misses)
+    }
+
+    fn back(&mut self) {
+        if let Some((before, choice)) = self.taken.pop() {
+            self.run.back(before);
+            self.done.pop(choice);
         }
     }
 }
@@ -337,101 +391,210 @@ fn write_json(
     out: &mut dyn Write,
     path: &Path,
     file: &[u8],
-    lists: &Lists,
+    source: Option<&Source>,
+    choices: &Choices,
     each: bool,
+    answer: Result<Standing, Refusal>,
 ) -> io::Result<Status> {
     let mut status = Status::Passed;
-    let first = if each { 0 } else { lists.len() };
     let mut json = Json::new(out);
     json.object(|json| {
         json.key("file")?.string(&path.to_string_lossy())?;
-        json.key("proved")?.boolean(blotheath::PROVED)?;
-        json.key("choices")?.number(lists.len() as i64)?;
-        json.key("standings")?.array(|json| {
-            for number in first..=lists.len() {
-                let answer = blotheath::follow(file, &lists[..number].concat());
-                json.line()?;
-                if answer.is_err() {
-                    status = Status::Refused;
-                }
-                json.object(|json| {
-                    json.key("choices")?.number(number as i64)?;
-                    write_standing(json, file, answer)
-                })?;
-            }
-            Ok(())
-        })
+        super::identity::members(json)?;
+        json.key("choices")?.number(choices.number() as i64)?;
+        status = match &answer {
+            Ok(answer) => write_run(json, file, source, choices, each, answer)?,
+            Err(refusal) => write_refusal(json, choices, *refusal)?,
+        };
+        Ok(())
     })?;
     json.end()?;
     Ok(status)
 }
 
-fn write_standing(
+/// The standings of a list that there is no run along.
+fn write_refusal(json: &mut Json, choices: &Choices, refusal: Refusal) -> io::Result<Status> {
+    json.key("standings")?.array(|json| {
+        json.line()?;
+        json.object(|json| {
+            json.key("choices")?.number(choices.number() as i64)?;
+            json.key("refusal")?.number(refusal.number())?;
+            json.key("sentence")?.string(refusal.sentence())
+        })
+    })?;
+    Ok(Status::Refused)
+}
+
+/// The standings of a run: the last, or one after each choice.
+fn write_run(
     json: &mut Json,
     file: &[u8],
-    answer: Result<Standing, Refusal>,
-) -> io::Result<()> {
-    let standing = match answer {
-        Ok(standing) => standing,
-        Err(refusal) => {
-            json.key("refusal")?.number(refusal.number())?;
-            return json.key("sentence")?.string(refusal.sentence());
-        }
-    };
-    let (line, frames) = match standing {
-        Standing::Finished => return json.key("finished")?.boolean(true),
-        Standing::At { line, frames, .. } => (line, frames),
-    };
-    json.key("finished")?.boolean(false)?;
-    json.key("line")?.optional(line)?;
+    source: Option<&Source>,
+    choices: &Choices,
+    each: bool,
+    answer: &Standing,
+) -> io::Result<Status> {
     let pattern = blotheath::load(file).map_err(io::Error::other)?;
-    json.key("frames")?.array(|json| {
-        for frame in &frames {
-            let line = pattern.line(frame.record, frame.offset);
-            json.object(|json| {
-                json.key("record")?.number(frame.record)?;
-                json.key("offset")?.number(frame.offset)?;
-                json.key("line")?.optional(line.map_err(io::Error::other)?)
-            })?;
+    let tree = Tree::of(&pattern);
+    let mut run = Run::new(&pattern, &tree);
+    let beside = Beside::of(source, &pattern);
+    if let Some(source) = source {
+        json.key("source")?
+            .object(|json| beside::members(json, source, &pattern))?;
+    }
+    let mut misses = Misses::default();
+    let mut agrees = true;
+    json.key("standings")?.array(|json| {
+        // The choice that led to the next standing, and whether it was open.
+        let mut last = None;
+        for (number, choice) in (0..).zip(choices.iter()) {
+            if each {
+                let now = Now {
+                    number,
+                    last,
+                    by: "program",
+                    run: &run,
+                };
+                now.write(json, &pattern, beside.as_ref())?;
+            }
+            let missed = take(&mut run, number + 1, choice);
+            last = Some((choice, missed.is_none()));
+            misses.add(missed);
         }
-        Ok(())
+        agrees = run.standing() == *answer;
+        if !agrees {
+            return Ok(());
+        }
+        let now = Now {
+            number: choices.number(),
+            last,
+            by: ANSWERER,
+            run: &run,
+        };
+        now.write(json, &pattern, beside.as_ref())
+    })?;
+    json.line()?;
+    json.key("not_open")?.object(|json| misses.members(json))?;
+    json.key("agrees")?.boolean(agrees)?;
+    Ok(match agrees {
+        true => Status::Passed,
+        false => differs(),
     })
+}
+
+/// A standing to be written as JSON.
+struct Now<'r, 'p, 'a> {
+    number: usize,
+    last: Option<(Choice, bool)>,
+    by: &'static str,
+    run: &'r Run<'p, 'a>,
+}
+
+impl Now<'_, '_, '_> {
+    fn write(&self, json: &mut Json, pattern: &Pattern, beside: Option<&Beside>) -> io::Result<()> {
+        json.line()?;
+        json.object(|json| {
+            json.key("choices")?.number(self.number as i64)?;
+            if let Some((choice, is_open)) = self.last {
+                json.key("choice")?.string(&told(choice))?;
+                json.key("open")?.boolean(is_open)?;
+            }
+            json.key("by")?.string(self.by)?;
+            let Some(top) = self.run.top() else {
+                return json.key("finished")?.boolean(true);
+            };
+            json.key("finished")?.boolean(false)?;
+            json.key("line")?.optional(line(pattern, top)?)?;
+            json.key("frames")?.array(|json| {
+                for frame in self.run.frames() {
+                    json.object(|json| write_frame(json, pattern, beside, *frame))?;
+                }
+                Ok(())
+            })
+        })
+    }
+}
+
+fn line(pattern: &Pattern, frame: Frame) -> io::Result<Option<u32>> {
+    let line = pattern.line(frame.record, frame.offset);
+    line.map_err(io::Error::other)
+}
+
+fn write_frame(
+    json: &mut Json,
+    pattern: &Pattern,
+    beside: Option<&Beside>,
+    frame: Frame,
+) -> io::Result<()> {
+    json.key("record")?.number(frame.record)?;
+    json.key("offset")?.number(frame.offset)?;
+    json.key("line")?.optional(line(pattern, frame)?)?;
+    match beside {
+        Some(beside) => beside.member(json, frame.record, frame.offset, text::LINE),
+        None => Ok(()),
+    }
+}
+
+impl Misses {
+    /// As members of a JSON object.
+    fn members(&self, json: &mut Json) -> io::Result<()> {
+        json.key("number")?.number(self.number as i64)?;
+        json.key("first")?.array(|json| {
+            for missed in &self.first {
+                json.object(|json| {
+                    json.key("choices")?.number(missed.number as i64)?;
+                    json.key("choice")?.string(&told(missed.choice))?;
+                    json.key("sentence")?.string(&missed.told())
+                })?;
+            }
+            Ok(())
+        })
+    }
 }
 
 #[cfg(test)]
 mod tests {
     use super::*;
 
-    fn read(words: &str) -> Result<Vec<u8>, String> {
-        let words: Vec<String> = words.split(' ').map(str::to_owned).collect();
-        read_choices(&words).map(|lists| lists.concat())
+    const SAMPLE: &[u8] = include_bytes!("../../../samples/oval.mrb");
+
+    /// What a list shows where this is the answer for it.
+    fn shown(each: bool, answer: &Standing) -> (Status, String) {
+        let choices = choices::read(&["go go".to_owned()]).unwrap();
+        let mut out = Vec::new();
+        let style = Style::of_output();
+        let status = list(&mut out, style, SAMPLE, None, &choices, each, answer);
+        (status.unwrap(), String::from_utf8(out).unwrap())
     }
 
     #[test]
-    fn words_and_bytes() {
-        assert_eq!(
-            read("go jump enter caught 258 leave"),
-            Ok(vec![0, 1, 2, 3, 1, 2, 4])
-        );
-        assert_eq!(read("3 go 2 c 1"), Ok(vec![0, 0, 0, 3, 0, 1, 3, 0, 1]));
-        assert_eq!(read("bytes 00 030001 05"), Ok(vec![0, 3, 0, 1, 5]));
-        assert_eq!(read("bytes 03"), Ok(vec![3]));
-    }
-
-    #[test]
-    fn faults() {
-        for words in [
-            "fly",
-            "caught",
-            "caught x",
-            "caught 65536",
-            "3",
-            "bytes 0",
-            "bytes 0g",
-            "bytes é",
-            "99999999999 go",
-        ] {
-            assert!(read(words).is_err(), "{words}");
+    fn a_wrong_end_is_not_shown() {
+        let answer = blotheath::follow(SAMPLE, &[0, 0]).unwrap();
+        let wrong = blotheath::follow(SAMPLE, &[0, 0, 0]).unwrap();
+        for each in [false, true] {
+            let (status, out) = shown(each, &answer);
+            assert_eq!(status, Status::Passed);
+            assert!(out.contains("offset 6"));
+            for wrong in [&wrong, &Standing::Finished] {
+                let (status, out) = shown(each, wrong);
+                assert_eq!(status, Status::Unusable);
+                assert!(!out.contains("offset 6") && !out.contains("offset 9"));
+            }
         }
+    }
+
+    #[test]
+    fn a_wrong_end_is_not_written() {
+        let choices = choices::read(&["go go".to_owned()]).unwrap();
+        let mut out = Vec::new();
+        let answer = Ok(Standing::Finished);
+        let path = Path::new("oval.mrb");
+        let status = write_json(&mut out, path, SAMPLE, None, &choices, false, answer);
+        assert_eq!(status.unwrap(), Status::Unusable);
+        let out = String::from_utf8(out).unwrap();
+        assert!(
+            out.contains("\"standings\":[]") && out.contains("\"agrees\":false"),
+            "{out}"
+        );
     }
 }

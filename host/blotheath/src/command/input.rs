@@ -1,8 +1,10 @@
 //! Reading of files and walking of folders.
 
 use blotheath::FILE_LIMIT;
-use std::fs::{self, File};
+use std::fs::{self, File, Metadata};
 use std::io::{self, Read};
+use std::os::fd::AsFd;
+use std::os::unix::fs::MetadataExt;
 use std::path::{Path, PathBuf};
 
 /// The bytes of a file, up to one byte past the limit; `-` is standard input.
@@ -15,6 +17,31 @@ pub fn read(path: &Path) -> io::Result<Vec<u8>> {
         return Err(io::Error::other("this is a folder"));
     }
     read_some(file)
+}
+
+/// The device and the number of a file.
+pub type Identity = (u64, u64);
+
+/// What tells a file, a device or a pipe from all others.
+pub fn identity(metadata: &Metadata) -> Identity {
+    (metadata.dev(), metadata.ino())
+}
+
+/// What a path names; `-` is standard input.
+pub fn metadata(path: &Path) -> io::Result<Metadata> {
+    match path == Path::new("-") {
+        true => of_open(io::stdin()),
+        false => fs::metadata(path),
+    }
+}
+
+/// What standard output goes to.
+pub fn standard_output() -> io::Result<Metadata> {
+    of_open(io::stdout())
+}
+
+fn of_open(open: impl AsFd) -> io::Result<Metadata> {
+    File::from(open.as_fd().try_clone_to_owned()?).metadata()
 }
 
 fn read_some(source: impl Read) -> io::Result<Vec<u8>> {
@@ -75,6 +102,12 @@ fn walk(folder: &Path, found: &mut Vec<Found>) {
     }
 }
 
+/// Whether a name ends in .mrb, in letters of any case.
+fn is_pattern(path: &Path) -> bool {
+    path.extension()
+        .is_some_and(|end| end.eq_ignore_ascii_case("mrb"))
+}
+
 /// Adds the patterns of one folder and answers the folders in it.
 fn list(folder: &Path, found: &mut Vec<Found>) -> io::Result<Vec<PathBuf>> {
     let mut entries = fs::read_dir(folder)?.collect::<io::Result<Vec<_>>>()?;
@@ -84,7 +117,7 @@ fn list(folder: &Path, found: &mut Vec<Found>) -> io::Result<Vec<PathBuf>> {
         let path = entry.path();
         if entry.file_type()?.is_dir() {
             folders.push(path);
-        } else if path.extension().is_some_and(|end| end == "mrb") && path.is_file() {
+        } else if is_pattern(&path) && path.is_file() {
             found.push(Found { path, fault: None });
         }
     }

@@ -1,6 +1,10 @@
 //! A writer of JSON.
 
+use super::text::is_hidden;
 use std::io::{self, Write};
+
+/// The largest whole number up to which floats hold each one, as readers of JSON take numbers.
+const MOST_SAFE: u64 = (1 << 53) - 1;
 
 /// Writes values one behind the other and puts the commas between them.
 pub struct Json<'w> {
@@ -82,9 +86,11 @@ impl<'w> Json<'w> {
                 '"' => self.out.write_all(b"\\\"")?,
                 '\\' => self.out.write_all(b"\\\\")?,
                 '\n' => self.out.write_all(b"\\n")?,
-                // Control characters, and what browsers and terminals may act on.
-                c if c.is_control() || ('\u{2028}'..='\u{202e}').contains(&c) => {
-                    write!(self.out, "\\u{:04x}", c as u32)?;
+                // What is not seen, and what browsers and terminals may act on.
+                c if is_hidden(c) => {
+                    for unit in c.encode_utf16(&mut [0; 2]) {
+                        write!(self.out, "\\u{unit:04x}")?;
+                    }
                 }
                 c => write!(self.out, "{c}")?,
             }
@@ -97,7 +103,16 @@ impl<'w> Json<'w> {
         write!(self.out, "{}", number.into())
     }
 
-    /// A float; one that JSON has no number for is a string.
+    /// A member `value` that is a whole number; one that a float may not hold is also a string, as `exact`.
+    pub fn value_member(&mut self, number: i64) -> io::Result<()> {
+        self.key("value")?.number(number)?;
+        match number.unsigned_abs() > MOST_SAFE {
+            true => self.key("exact")?.string(&number.to_string()),
+            false => Ok(()),
+        }
+    }
+
+    /// A float, so that it reads back to the same bits; one that JSON has no number for is a string.
     pub fn float(&mut self, number: f64) -> io::Result<()> {
         if number.is_finite() {
             self.separate()?;
@@ -168,10 +183,37 @@ mod tests {
     }
 
     #[test]
+    fn numbers_are_exact() {
+        let value = |number| written(|json| json.object(|json| json.value_member(number)));
+        assert_eq!(
+            value(9_007_199_254_740_991),
+            r#"{"value":9007199254740991}"#
+        );
+        for number in [1 << 53, -(1 << 53), (1 << 53) + 1, i64::MAX, i64::MIN] {
+            let expected = format!("{{\"value\":{number},\"exact\":\"{number}\"}}");
+            assert_eq!(value(number), expected);
+        }
+        for bits in [
+            1,
+            1 << 63,
+            0x7fef_ffff_ffff_ffff,
+            0x3fb9_9999_9999_9998,
+            0x4341_c379_37e0_8000,
+        ] {
+            let number = f64::from_bits(bits);
+            let read: f64 = written(|json| json.float(number)).parse().unwrap();
+            assert_eq!(read.to_bits(), bits);
+        }
+        assert_eq!(written(|json| json.float(-f64::INFINITY)), "\"-inf\"");
+    }
+
+    #[test]
     fn strings() {
         let shown = written(|json| json.string("a\"\\\n\t\u{1b}é"));
         assert_eq!(shown, "\"a\\\"\\\\\\n\\u0009\\u001bé\"");
         let bytes = written(|json| json.object(|json| json.text_member(&[255, 0])));
         assert_eq!(bytes, r#"{"hex":"ff00"}"#);
+        let hidden = written(|json| json.string("\u{ad}\u{200b}\u{202e}\u{feff}\u{e0041}木"));
+        assert_eq!(hidden, "\"\\u00ad\\u200b\\u202e\\ufeff\\udb40\\udc41木\"");
     }
 }

@@ -3,9 +3,10 @@
 use super::json::Json;
 use super::style::Style;
 use super::text::{self, counted, grouped};
-use super::verdict::count_members;
+use super::verdict::{self, count_members};
 use super::{MOST_SHOWN, Status, input, unusable};
-use blotheath::{Constant, Pattern, Record, Refusal, Text};
+use blotheath::{Constant, Pattern, Record, Refusal, Text, locate};
+use std::cell::Cell;
 use std::io::{self, Write};
 use std::path::Path;
 
@@ -21,19 +22,22 @@ pub fn run(
         Ok(file) => file,
         Err(fault) => return Ok(unusable(&name, &fault)),
     };
-    let most = if all { u64::MAX } else { MOST_SHOWN };
     let loaded = blotheath::load(&file);
     if json {
-        write_json(out, path, &loaded, most)?;
+        write_json(out, path, &file, &loaded, all)?;
     } else {
         match &loaded {
             Ok(pattern) => {
                 let counts = pattern.counts();
                 let records = counted(counts.records.into(), "record");
                 writeln!(out, "{name}: {}", style.good(&format!("loads: {records}")))?;
-                Tables { out, style, most }.write(pattern)?;
+                write_tables(out, style, pattern, all)?;
             }
-            Err(refusal) => writeln!(out, "{name}: {}", style.bad(&refusal.to_string()))?,
+            Err(refusal) => {
+                let place = locate(&file, None, *refusal);
+                let sentence = verdict::refused(*refusal, place.as_ref());
+                writeln!(out, "{name}: {}", style.bad(&sentence))?;
+            }
         }
     }
     Ok(match loaded {
@@ -42,22 +46,70 @@ pub fn run(
     })
 }
 
+fn write_tables(out: &mut dyn Write, style: Style, pattern: &Pattern, all: bool) -> io::Result<()> {
+    let (most, text) = match all {
+        true => (u64::MAX, usize::MAX),
+        false => (MOST_SHOWN, text::SHORT),
+    };
+    let cutter = Cutter {
+        most: text,
+        cut: Cell::new(0),
+    };
+    let mut tables = Tables {
+        out,
+        style,
+        most,
+        cutter: &cutter,
+    };
+    tables.write(pattern)
+}
+
 /// Takes the cells of a row.
 type Row<'r> = &'r mut dyn FnMut(Vec<String>) -> io::Result<()>;
 
 /// Takes the cells of a row, and where they are to be written.
 type Take<'r> = &'r mut dyn FnMut(&mut dyn Write, Vec<String>) -> io::Result<()>;
 
+/// Shows texts and constants, and counts those that it cuts.
+struct Cutter {
+    most: usize,
+    cut: Cell<u64>,
+}
+
+impl Cutter {
+    fn count(&self, length: usize) {
+        let is_cut = u64::from(length > self.most);
+        self.cut.set(self.cut.get() + is_cut);
+    }
+
+    fn text(&self, bytes: &[u8]) -> String {
+        self.count(bytes.len());
+        text::plain(bytes, self.most)
+    }
+
+    fn constant(&self, constant: &Constant) -> String {
+        match constant {
+            Constant::Text(text) => self.count(text.bytes.len()),
+            // The first byte is the base.
+            Constant::Big(text) => self.count(text.bytes.len().saturating_sub(1)),
+            Constant::Int(_) | Constant::Float(_) => {}
+        }
+        text::constant_up_to(constant, self.most)
+    }
+}
+
 /// Writes aligned tables.
 struct Tables<'w> {
     out: &'w mut dyn Write,
     style: Style,
     most: u64,
+    cutter: &'w Cutter,
 }
 
 impl Tables<'_> {
     fn write(&mut self, pattern: &Pattern) -> io::Result<()> {
         let counts = pattern.counts();
+        let cutter = self.cutter;
         self.table(
             "records",
             counts.records,
@@ -74,25 +126,25 @@ impl Tables<'_> {
             "constants",
             counts.constants,
             ">record >constant kind >at >length value",
-            &|row| constants(pattern, row),
+            &|row| constants(pattern, cutter, row),
         )?;
         self.table(
             "symbols",
             counts.symbols,
             ">record >symbol >at >length text",
-            &|row| symbols(pattern, row),
+            &|row| symbols(pattern, cutter, row),
         )?;
         self.table(
             "local names",
             counts.names,
             ">record >register >at name",
-            &|row| names(pattern, row),
+            &|row| names(pattern, cutter, row),
         )?;
         self.table(
             "debug files",
             counts.files,
             ">record >file >start >lines name",
-            &|row| files(pattern, row),
+            &|row| files(pattern, cutter, row),
         )?;
         self.table("lines", counts.lines, ">record >position >line", &|row| {
             lines(pattern, row)
@@ -101,13 +153,20 @@ impl Tables<'_> {
             "strings",
             counts.strings,
             ">string >at >length text",
-            &|row| texts(counts.strings, |index| pattern.string(index), row),
+            &|row| texts(counts.strings, |index| pattern.string(index), cutter, row),
         )?;
         self.table(
             "file names",
             counts.file_names,
             ">file >at >length text",
-            &|row| texts(counts.file_names, |index| pattern.file_name(index), row),
+            &|row| {
+                texts(
+                    counts.file_names,
+                    |index| pattern.file_name(index),
+                    cutter,
+                    row,
+                )
+            },
         )
     }
 
@@ -139,6 +198,7 @@ impl Tables<'_> {
         writeln!(self.out, "\n{}", style.bold(&title))?;
         let line = aligned(&headings, &widths, &heads);
         writeln!(self.out, "{}", style.dim(&line))?;
+        self.cutter.cut.set(0);
         self.some(rows, &mut |out, cells| {
             writeln!(out, "{}", aligned(&headings, &widths, &cells))
         })?;
@@ -150,7 +210,12 @@ impl Tables<'_> {
                 style.dim(&format!("  {left}; --all shows them"))
             )?;
         }
-        Ok(())
+        let told = match self.cutter.cut.get() {
+            0 => return Ok(()),
+            1 => "1 text is cut; --all shows it whole".to_owned(),
+            cut => format!("{} texts are cut; --all shows them whole", grouped(cut)),
+        };
+        writeln!(self.out, "{}", style.dim(&format!("  {told}")))
     }
 
     /// Hands on the rows that are shown.
@@ -174,10 +239,11 @@ impl Tables<'_> {
 /// One line of cells below their headings.
 fn aligned(headings: &[&str], widths: &[usize], cells: &[String]) -> String {
     let mut line = String::new();
-    for ((heading, width), cell) in headings.iter().zip(widths).zip(cells) {
+    for (place, ((heading, width), cell)) in headings.iter().zip(widths).zip(cells).enumerate() {
         line += "  ";
         match heading.starts_with('>') {
             true => line += &format!("{cell:>width$}"),
+            false if place + 1 == headings.len() => line += cell,
             false => line += &format!("{cell:<width$}"),
         }
     }
@@ -250,34 +316,34 @@ fn constant<'p>(
     Ok((constant, kind, bytes))
 }
 
-fn constants(pattern: &Pattern, row: Row) -> io::Result<()> {
+fn constants(pattern: &Pattern, cutter: &Cutter, row: Row) -> io::Result<()> {
     for (number, record) in numbered(pattern) {
         for index in 0..record.constants.number {
             let (constant, _, bytes) = constant(pattern, number, index)?;
             let mut cells = numbers(&[number, index]);
             cells.push(text::kind(&constant).to_owned());
             cells.extend(numbers(&[bytes.place, bytes.bytes.len() as u32]));
-            cells.push(text::constant(&constant));
+            cells.push(cutter.constant(&constant));
             row(cells)?;
         }
     }
     Ok(())
 }
 
-fn symbols(pattern: &Pattern, row: Row) -> io::Result<()> {
+fn symbols(pattern: &Pattern, cutter: &Cutter, row: Row) -> io::Result<()> {
     for (number, record) in numbered(pattern) {
         for index in 0..record.symbols.number {
             let symbol = pattern.symbol(number, index).map_err(io::Error::other)?;
             let length = symbol.bytes.len() as u32;
             let mut cells = numbers(&[number, index, symbol.place, length]);
-            cells.push(text::plain(symbol.bytes, text::SHORT));
+            cells.push(cutter.text(symbol.bytes));
             row(cells)?;
         }
     }
     Ok(())
 }
 
-fn names(pattern: &Pattern, row: Row) -> io::Result<()> {
+fn names(pattern: &Pattern, cutter: &Cutter, row: Row) -> io::Result<()> {
     for (number, record) in numbered(pattern) {
         for index in 0..record.names.number {
             let name = pattern.name(number, index).map_err(io::Error::other)?;
@@ -286,7 +352,7 @@ fn names(pattern: &Pattern, row: Row) -> io::Result<()> {
             match name {
                 Some(name) => {
                     cells.push(name.place.to_string());
-                    cells.push(text::plain(name.bytes, text::SHORT));
+                    cells.push(cutter.text(name.bytes));
                 }
                 None => cells.extend(["-".to_owned(), "(unnamed)".to_owned()]),
             }
@@ -296,14 +362,14 @@ fn names(pattern: &Pattern, row: Row) -> io::Result<()> {
     Ok(())
 }
 
-fn files(pattern: &Pattern, row: Row) -> io::Result<()> {
+fn files(pattern: &Pattern, cutter: &Cutter, row: Row) -> io::Result<()> {
     for (number, record) in numbered(pattern) {
         for index in 0..record.files.number {
             let file = pattern
                 .debug_file(number, index)
                 .map_err(io::Error::other)?;
             let mut cells = numbers(&[number, index, file.start, file.lines.number]);
-            cells.push(text::plain(file.name.bytes, text::SHORT));
+            cells.push(cutter.text(file.name.bytes));
             row(cells)?;
         }
     }
@@ -321,47 +387,58 @@ fn lines(pattern: &Pattern, row: Row) -> io::Result<()> {
     Ok(())
 }
 
-fn texts<'p>(number: u32, at: impl Fn(u32) -> Option<Text<'p>>, row: Row) -> io::Result<()> {
+fn texts<'p>(
+    number: u32,
+    at: impl Fn(u32) -> Option<Text<'p>>,
+    cutter: &Cutter,
+    row: Row,
+) -> io::Result<()> {
     for index in 0..number {
         if let Some(found) = at(index) {
             let mut cells = numbers(&[index, found.place, found.bytes.len() as u32]);
-            cells.push(text::plain(found.bytes, text::SHORT));
+            cells.push(cutter.text(found.bytes));
             row(cells)?;
         }
     }
     Ok(())
 }
 
-/// How many rows of each kind may still be written.
+/// How many rows of each kind may still be written, and how many bytes of a text that many rows may share.
 struct Left {
     handlers: u64,
     constants: u64,
     symbols: u64,
+    text: usize,
 }
 
 fn write_json(
     out: &mut dyn Write,
     path: &Path,
+    file: &[u8],
     loaded: &Result<Pattern, Refusal>,
-    most: u64,
+    all: bool,
 ) -> io::Result<()> {
     let mut json = Json::new(out);
     json.object(|json| {
         json.key("file")?.string(&path.to_string_lossy())?;
-        json.key("proved")?.boolean(blotheath::PROVED)?;
+        super::identity::members(json)?;
         json.key("loads")?.boolean(loaded.is_ok())?;
         match loaded {
-            Ok(pattern) => write_rows(json, pattern, most),
+            Ok(pattern) => write_rows(json, pattern, all),
             Err(refusal) => {
-                json.key("refusal")?.number(refusal.number())?;
-                json.key("sentence")?.string(refusal.sentence())
+                let place = locate(file, None, *refusal);
+                verdict::refusal_members(json, *refusal, place.as_ref())
             }
         }
     })?;
     json.end()
 }
 
-fn write_rows(json: &mut Json, pattern: &Pattern, most: u64) -> io::Result<()> {
+fn write_rows(json: &mut Json, pattern: &Pattern, all: bool) -> io::Result<()> {
+    let (most, text) = match all {
+        true => (u64::MAX, usize::MAX),
+        false => (MOST_SHOWN, SHARED_TEXT),
+    };
     let counts = pattern.counts();
     json.key("rows")?
         .object(|json| count_members(json, counts))?;
@@ -371,6 +448,7 @@ fn write_rows(json: &mut Json, pattern: &Pattern, most: u64) -> io::Result<()> {
         handlers: most,
         constants: most,
         symbols: most,
+        text,
     };
     json.key("records")?.array(|json| {
         for (number, record) in numbered(pattern) {
@@ -390,12 +468,12 @@ fn write_rows(json: &mut Json, pattern: &Pattern, most: u64) -> io::Result<()> {
 }
 
 /// The most bytes of a text that many rows may share; strings, file names, symbols and constants have theirs whole.
-const SHARED_TEXT: usize = 256;
+pub const SHARED_TEXT: usize = 256;
 
-/// Text as a member; a long one is cut.
-pub fn short_text(json: &mut Json, bytes: &[u8]) -> io::Result<()> {
-    match bytes.get(..SHARED_TEXT) {
-        Some(start) if bytes.len() > SHARED_TEXT => {
+/// Text as a member; one longer than the most bytes is cut.
+pub fn short_text(json: &mut Json, bytes: &[u8], most: usize) -> io::Result<()> {
+    match bytes.get(..most) {
+        Some(start) if bytes.len() > most => {
             json.key("cut")?.boolean(true)?;
             json.hex_member(start)
         }
@@ -404,10 +482,10 @@ pub fn short_text(json: &mut Json, bytes: &[u8]) -> io::Result<()> {
 }
 
 /// Text that many rows may share with its place, as members.
-fn shared_members(json: &mut Json, text: Text) -> io::Result<()> {
+fn shared_members(json: &mut Json, text: Text, most: usize) -> io::Result<()> {
     json.key("at")?.number(text.place)?;
     json.key("length")?.number(text.bytes.len() as i64)?;
-    short_text(json, text.bytes)
+    short_text(json, text.bytes, most)
 }
 
 /// Text with its place, as members.
@@ -481,8 +559,8 @@ fn write_record(
         }
         Ok(())
     })?;
-    write_names(json, pattern, number, record)?;
-    write_debug(json, pattern, number, record)
+    write_names(json, pattern, number, record, left.text)?;
+    write_debug(json, pattern, number, record, left.text)
 }
 
 fn write_handler(json: &mut Json, pattern: &Pattern, record: u32, index: u32) -> io::Result<()> {
@@ -501,7 +579,7 @@ pub fn constant_members(json: &mut Json, constant: &Constant, bytes: Text) -> io
     match constant {
         Constant::Text(text) => json.text_member(text.bytes),
         Constant::Int(number) => {
-            json.key("value")?.number(*number)?;
+            json.value_member(*number)?;
             json.hex_member(bytes.bytes)
         }
         Constant::Float(number) => {
@@ -516,11 +594,17 @@ pub fn constant_members(json: &mut Json, constant: &Constant, bytes: Text) -> io
     }
 }
 
-fn write_names(json: &mut Json, pattern: &Pattern, number: u32, record: &Record) -> io::Result<()> {
+fn write_names(
+    json: &mut Json,
+    pattern: &Pattern,
+    number: u32,
+    record: &Record,
+    most: usize,
+) -> io::Result<()> {
     json.key("names")?.array(|json| {
         for index in 0..record.names.number {
             match pattern.name(number, index).map_err(io::Error::other)? {
-                Some(name) => json.object(|json| shared_members(json, name))?,
+                Some(name) => json.object(|json| shared_members(json, name, most))?,
                 None => json.null()?,
             }
         }
@@ -528,7 +612,13 @@ fn write_names(json: &mut Json, pattern: &Pattern, number: u32, record: &Record)
     })
 }
 
-fn write_debug(json: &mut Json, pattern: &Pattern, number: u32, record: &Record) -> io::Result<()> {
+fn write_debug(
+    json: &mut Json,
+    pattern: &Pattern,
+    number: u32,
+    record: &Record,
+    most: usize,
+) -> io::Result<()> {
     json.key("files")?.array(|json| {
         for index in 0..record.files.number {
             let file = pattern
@@ -539,7 +629,7 @@ fn write_debug(json: &mut Json, pattern: &Pattern, number: u32, record: &Record)
                 json.key("first_line_row")?.number(file.lines.first)?;
                 json.key("line_rows")?.number(file.lines.number)?;
                 json.key("name")?
-                    .object(|json| shared_members(json, file.name))
+                    .object(|json| shared_members(json, file.name, most))
             })?;
         }
         Ok(())

@@ -19,6 +19,8 @@ pub enum Meaning<'a> {
     Jump(u32, i64),
     /// A number that the step itself uses.
     Number(u32, i64),
+    /// A register of an outer record, with the local's name where there is one.
+    Outer(u32, Option<Text<'a>>),
     /// Anything else, with words for it where there are some.
     Plain(u32, Option<String>),
 }
@@ -33,15 +35,20 @@ impl<'a> Reader<'_, 'a> {
     /// The operands of a step of a record.
     pub fn meanings(&self, number: u32, record: &Record, step: &Step) -> Vec<Meaning<'a>> {
         let roles = roles(step.opcode);
-        let operands = step.given().iter().enumerate();
-        operands
+        let given = match halves(step) {
+            Some(_) => &step.operands[..2],
+            None => step.given(),
+        };
+        given
+            .iter()
+            .enumerate()
             .map(|(place, value)| match roles[place] {
                 Role::Register => Meaning::Register(*value, self.local(number, record, *value)),
                 Role::Constant => Meaning::Constant(*value, self.constant(number, *value)),
                 Role::Symbol => Meaning::Symbol(*value, self.pattern.symbol(number, *value).ok()),
                 Role::Child => Meaning::Child(*value, self.tree.child(number, *value)),
                 Role::Plain => match self.outer(number, step, place) {
-                    Some(words) => Meaning::Plain(*value, Some(words)),
+                    Some(local) => Meaning::Outer(*value, local),
                     None => plain(step, place),
                 },
             })
@@ -49,7 +56,7 @@ impl<'a> Reader<'_, 'a> {
     }
 
     /// The register of an outer record that GETUPVAR and SETUPVAR name second: their third operand counts the records between.
-    fn outer(&self, number: u32, step: &Step, place: usize) -> Option<String> {
+    fn outer(&self, number: u32, step: &Step, place: usize) -> Option<Option<Text<'a>>> {
         if !matches!(opcode_name(step.opcode), Some("GETUPVAR" | "SETUPVAR")) || place != 1 {
             return None;
         }
@@ -58,8 +65,7 @@ impl<'a> Reader<'_, 'a> {
         for _ in 0..=between {
             outer = self.tree.nodes.get(outer as usize)?.parent?;
         }
-        let local = self.local(outer, &self.pattern.record(outer)?, register);
-        Some(Meaning::Register(register, local).shown())
+        Some(self.local(outer, &self.pattern.record(outer)?, register))
     }
 
     /// The name of a register that holds a local.
@@ -75,6 +81,12 @@ impl<'a> Reader<'_, 'a> {
     }
 }
 
+/// The number of LOADI32, whose second and third operand are its halves.
+fn halves(step: &Step) -> Option<i32> {
+    let [_, high, low] = step.operands;
+    (opcode_name(step.opcode) == Some("LOADI32")).then_some((high << 16 | low) as i32)
+}
+
 /// An operand that no table holds.
 fn plain<'a>(step: &Step, place: usize) -> Meaning<'a> {
     let value = step.operands[place];
@@ -83,12 +95,13 @@ fn plain<'a>(step: &Step, place: usize) -> Meaning<'a> {
     {
         return Meaning::Jump(value, target);
     }
-    let [_, b, c] = step.operands;
+    if let Some(number) = halves(step) {
+        return Meaning::Number(number as u32, number.into());
+    }
     match (opcode_name(step.opcode), place) {
         (Some("LOADI" | "ADDI" | "SUBI"), 1) => Meaning::Number(value, value.into()),
         (Some("LOADINEG"), 1) => Meaning::Number(value, -i64::from(value)),
         (Some("LOADI16"), 1) => Meaning::Number(value, (value as u16 as i16).into()),
-        (Some("LOADI32"), 2) => Meaning::Number(value, ((b << 16 | c) as i32).into()),
         (Some("SEND" | "SENDB" | "SSEND" | "SSENDB"), 2) => {
             Meaning::Plain(value, Some(arguments(value)))
         }
@@ -144,14 +157,19 @@ fn parameters(value: u32) -> String {
 impl Meaning<'_> {
     /// The operand in a word or two.
     pub fn shown(&self) -> String {
+        self.shown_up_to(text::SHORT)
+    }
+
+    /// The operand, a text of the file cut where it is longer than the most bytes.
+    pub fn shown_up_to(&self, most: usize) -> String {
         match self {
-            Meaning::Register(number, None) => format!("R{number}"),
-            Meaning::Register(number, Some(name)) => {
-                format!("R{number} {}", text::plain(name.bytes, text::SHORT))
+            Meaning::Register(number, None) | Meaning::Outer(number, None) => format!("R{number}"),
+            Meaning::Register(number, Some(name)) | Meaning::Outer(number, Some(name)) => {
+                format!("R{number} {}", text::plain(name.bytes, most))
             }
-            Meaning::Constant(_, Some(constant)) => text::constant(constant),
+            Meaning::Constant(_, Some(constant)) => text::constant_up_to(constant, most),
             Meaning::Constant(number, None) => format!("constant {number}, which is not there"),
-            Meaning::Symbol(_, Some(symbol)) => text::symbol(*symbol),
+            Meaning::Symbol(_, Some(symbol)) => text::symbol_up_to(*symbol, most),
             Meaning::Symbol(number, None) => format!("symbol {number}, which is not there"),
             Meaning::Child(_, Some(record)) => format!("record {record}"),
             Meaning::Child(number, None) => format!("child {number}, which is not there"),
@@ -162,29 +180,36 @@ impl Meaning<'_> {
         }
     }
 
-    /// The operand as a JSON object.
-    pub fn write(&self, json: &mut Json) -> io::Result<()> {
+    /// The operand of a step of a record as a JSON object, texts up to the most bytes.
+    pub fn write(
+        &self,
+        json: &mut Json,
+        reader: &Reader,
+        record: u32,
+        most: usize,
+    ) -> io::Result<()> {
         json.object(|json| match self {
             Meaning::Register(number, name) => {
                 head(json, "register", *number)?;
                 match name {
                     Some(name) => json
                         .key("name")?
-                        .object(|json| short_text(json, name.bytes)),
+                        .object(|json| short_text(json, name.bytes, most)),
                     None => Ok(()),
                 }
             }
             Meaning::Constant(number, constant) => {
                 head(json, "constant", *number)?;
-                match constant {
-                    Some(constant) => write_short(json, constant),
-                    None => Ok(()),
+                let bytes = reader.pattern.constant_bytes(record, *number);
+                match (constant, bytes) {
+                    (Some(constant), Ok((_, bytes))) => write_constant(json, constant, bytes, most),
+                    _ => Ok(()),
                 }
             }
             Meaning::Symbol(number, symbol) => {
                 head(json, "symbol", *number)?;
                 match symbol {
-                    Some(symbol) => short_text(json, symbol.bytes),
+                    Some(symbol) => short_text(json, symbol.bytes, most),
                     None => Ok(()),
                 }
             }
@@ -200,7 +225,7 @@ impl Meaning<'_> {
                 head(json, "number", *value)?;
                 json.key("means")?.number(*number)
             }
-            Meaning::Plain(value, _) => head(json, "plain", *value),
+            Meaning::Outer(value, _) | Meaning::Plain(value, _) => head(json, "plain", *value),
         })
     }
 }
@@ -210,18 +235,17 @@ fn head(json: &mut Json, role: &str, value: u32) -> io::Result<()> {
     json.key("operand")?.number(value)
 }
 
-fn write_short(json: &mut Json, constant: &Constant) -> io::Result<()> {
+fn write_constant(
+    json: &mut Json,
+    constant: &Constant,
+    bytes: Text,
+    most: usize,
+) -> io::Result<()> {
     match constant {
         Constant::Text(text) => {
-            json.key("kind")?.string("text")?;
-            short_text(json, text.bytes)
+            json.key("kind")?.string(text::kind(constant))?;
+            short_text(json, text.bytes, most)
         }
-        constant => {
-            let none = Text {
-                place: 0,
-                bytes: &[],
-            };
-            constant_members(json, constant, none)
-        }
+        constant => constant_members(json, constant, bytes),
     }
 }

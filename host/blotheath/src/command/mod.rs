@@ -2,16 +2,21 @@
 
 mod args;
 mod arrows;
+mod beside;
+mod choices;
 mod examine;
 mod follow;
 mod help;
+mod identity;
 mod input;
 mod json;
 mod labels;
+mod lines;
 mod load;
 mod meaning;
 mod report;
 mod sha256;
+mod source;
 mod steps;
 mod style;
 mod text;
@@ -48,21 +53,34 @@ pub fn run(words: &[OsString]) -> io::Result<Status> {
     let style = Style::of_output();
     let status = match command {
         Command::Help(topic) => help::write(&mut out, topic.as_deref()),
-        Command::Version => help::write_version(&mut out),
+        Command::Version => identity::write_version(&mut out),
         Command::Examine { paths, json } => examine::run(&mut out, style, &paths, json),
         Command::Load { path, json, all } => load::run(&mut out, style, &path, json, all),
-        Command::Steps { path, json, all } => steps::run(&mut out, style, &path, json, all),
+        Command::Steps {
+            path,
+            source,
+            json,
+            all,
+        } => steps::run(&mut out, style, &path, source.as_deref(), json, all),
         Command::Follow {
             path,
             choices,
+            source,
             json,
             each,
-        } => follow::run(&mut out, style, &path, &choices, json, each),
+        } => {
+            let source = source.as_deref();
+            follow::run(&mut out, style, &path, &choices, source, json, each)
+        }
         Command::Report {
             path,
             output,
             source,
-        } => report::run(&mut out, &path, output.as_deref(), source.as_deref()),
+            force,
+        } => {
+            let (output, source) = (output.as_deref(), source.as_deref());
+            report::run(&mut out, &path, output, source, force)
+        }
     }?;
     out.flush()?;
     Ok(status)
@@ -73,6 +91,11 @@ pub fn tell(text: &str) {
     let _ = io::stderr().write_all(text.as_bytes());
 }
 
+/// Tells what the system says is wrong.
+pub fn complain_of(fault: &io::Error) {
+    complain(&text::fault(fault));
+}
+
 /// Tells what is wrong.
 pub fn complain(fault: &str) {
     tell(&format!("blotheath: {fault}\n"));
@@ -80,6 +103,6 @@ pub fn complain(fault: &str) {
 
 /// Tells why a file cannot be used.
 pub fn unusable(name: &str, fault: &io::Error) -> Status {
-    complain(&format!("{name}: {fault}"));
+    complain(&format!("{name}: {}", text::fault(fault)));
     Status::Unusable
 }

@@ -1,9 +1,12 @@
 //! `blotheath steps`: the instructions of each record.
 
 use super::arrows::{Arrow, Margin};
+use super::beside::{self, Beside};
 use super::json::Json;
 use super::labels::labels;
+use super::load::SHARED_TEXT;
 use super::meaning::{Meaning, Reader};
+use super::source::Source;
 use super::style::Style;
 use super::text::{self, counted};
 use super::verdict::{Verdict, judge};
@@ -16,6 +19,7 @@ pub fn run(
     out: &mut dyn Write,
     style: Style,
     path: &Path,
+    source: Option<&Path>,
     json: bool,
     all: bool,
 ) -> io::Result<Status> {
@@ -24,12 +28,15 @@ pub fn run(
         Ok(file) => file,
         Err(fault) => return Ok(unusable(&name, &fault)),
     };
+    let source = match source.map(Source::read).transpose() {
+        Ok(source) => source,
+        Err((name, fault)) => return Ok(unusable(&name, &fault)),
+    };
     let verdict = judge(&file);
-    let left = if all { u64::MAX } else { MOST_SHOWN };
     if json {
-        write_json(out, path, &verdict, left)?;
+        write_json(out, path, &verdict, source.as_ref(), all)?;
     } else {
-        write(out, style, &name, &verdict, left)?;
+        write(out, style, &name, &verdict, source.as_ref(), all)?;
     }
     Ok(match verdict.passes() {
         true => Status::Passed,
@@ -37,12 +44,41 @@ pub fn run(
     })
 }
 
+/// How much is shown.
+#[derive(Clone, Copy)]
+struct Most {
+    /// The steps and handlers that are still to come.
+    left: u64,
+    /// The bytes of a text of the file.
+    text: usize,
+    /// The characters of a source's line.
+    line: usize,
+}
+
+impl Most {
+    fn of(all: bool, text: usize) -> Most {
+        match all {
+            true => Most {
+                left: u64::MAX,
+                text: usize::MAX,
+                line: usize::MAX,
+            },
+            false => Most {
+                left: MOST_SHOWN,
+                text,
+                line: text::LINE,
+            },
+        }
+    }
+}
+
 fn write(
     out: &mut dyn Write,
     style: Style,
     name: &str,
     verdict: &Verdict,
-    left: u64,
+    source: Option<&Source>,
+    all: bool,
 ) -> io::Result<()> {
     let sentence = verdict.sentence();
     match verdict.passes() {
@@ -61,10 +97,11 @@ fn write(
             pattern,
             tree: &tree,
         },
-        left,
+        beside: Beside::of(source, pattern),
+        most: Most::of(all, text::SHORT),
     };
     for (number, record) in (0..).zip(pattern.records()) {
-        if view.left == 0 {
+        if view.most.left == 0 {
             let records = counted(u64::from(pattern.counts().records - number), "more record");
             return writeln!(view.out, "\n{records}; --all shows them");
         }
@@ -120,7 +157,8 @@ struct View<'w, 'p, 'a> {
     out: &'w mut dyn Write,
     style: Style,
     reader: Reader<'p, 'a>,
-    left: u64,
+    beside: Option<Beside<'p, 'a>>,
+    most: Most,
 }
 
 impl View<'_, '_, '_> {
@@ -138,7 +176,7 @@ impl View<'_, '_, '_> {
         ];
         let about = style.dim(&format!("({})", about.join(", ")));
         writeln!(self.out, "\n{} {about}", style.bold(&title))?;
-        let shown = shown(self.reader.pattern, number, &mut self.left);
+        let shown = shown(self.reader.pattern, number, &mut self.most.left);
         let margin = margin(&shown.steps);
         let mut line = None;
         for (row, step) in shown.steps.iter().enumerate() {
@@ -146,7 +184,7 @@ impl View<'_, '_, '_> {
             let told = if now == line { None } else { now };
             line = now;
             let meanings = self.reader.meanings(number, record, step);
-            self.step(&margin.drawn(row), step, &meanings, told)?;
+            self.step(number, &margin.drawn(row), step, &meanings, told)?;
         }
         if let Some(bad) = shown.bad {
             let text = format!("{:>6}  {bad}: reading ends here", bad.offset());
@@ -163,37 +201,46 @@ impl View<'_, '_, '_> {
         line.map_err(io::Error::other)
     }
 
+    /// Writes a step; the first of a line has the line's number, and the source's text behind it.
     fn step(
         &mut self,
+        number: u32,
         margin: &str,
         step: &Step,
         meanings: &[Meaning],
         line: Option<u32>,
     ) -> io::Result<()> {
         let style = self.style;
+        let beside = self.beside.as_ref().filter(|_| line.is_some());
         let line = match line {
             Some(line) => format!("line {line}"),
             None => String::new(),
         };
-        let operands: Vec<String> = meanings.iter().map(Meaning::shown).collect();
+        let line = format!("{line:>10}");
+        let operands: Vec<String> = meanings
+            .iter()
+            .map(|meaning| meaning.shown_up_to(self.most.text))
+            .collect();
+        let operands = operands.join(", ");
         let name = format!("{:<10}", opcode_name(step.opcode).unwrap_or_default());
-        let row = format!(
-            "{}  {}{:>5}  {} {}",
-            style.dim(&format!("{line:>10}")),
-            style.arrow(margin),
-            step.offset,
-            style.bold(&name),
-            operands.join(", ")
-        );
+        let row = |line: &str, margin: &str, name: &str| {
+            format!("{line}  {margin}{:>5}  {name} {operands}", step.offset)
+        };
+        let source = beside.map(|beside| {
+            let width = row(&line, margin, &name).chars().count();
+            beside.behind(width, number, step.offset, self.most.line)
+        });
+        let row = row(&style.dim(&line), &style.arrow(margin), &style.bold(&name));
+        let row = row + &style.dim(&source.unwrap_or_default());
         writeln!(self.out, "{}", row.trim_end())
     }
 
     fn handlers(&mut self, number: u32, record: &Record) -> io::Result<()> {
         for index in 0..record.handlers.number {
-            if self.left == 0 {
+            if self.most.left == 0 {
                 return writeln!(self.out, "  more handlers; --all shows them");
             }
-            self.left -= 1;
+            self.most.left -= 1;
             let handler = self.reader.pattern.handler(number, index);
             let handler = handler.map_err(io::Error::other)?;
             let text = format!(
@@ -213,82 +260,91 @@ fn write_json(
     out: &mut dyn Write,
     path: &Path,
     verdict: &Verdict,
-    mut left: u64,
+    source: Option<&Source>,
+    all: bool,
 ) -> io::Result<()> {
     let mut json = Json::new(out);
     json.object(|json| {
         json.key("file")?.string(&path.to_string_lossy())?;
-        json.key("proved")?.boolean(blotheath::PROVED)?;
+        super::identity::members(json)?;
         verdict.members(json)?;
         let Some(pattern) = verdict.pattern() else {
             return Ok(());
         };
+        if let Some(source) = source {
+            json.key("source")?
+                .object(|json| beside::members(json, source, pattern))?;
+        }
         let tree = Tree::of(pattern);
-        let reader = Reader {
-            pattern,
-            tree: &tree,
+        let mut steps = Steps {
+            reader: Reader {
+                pattern,
+                tree: &tree,
+            },
+            beside: Beside::of(source, pattern),
+            most: Most::of(all, SHARED_TEXT),
         };
         json.key("records")?.array(|json| {
             for (number, record) in (0..).zip(pattern.records()) {
-                if left == 0 {
+                if steps.most.left == 0 {
                     break;
                 }
                 json.line()?;
-                json.object(|json| write_record(json, &reader, number, &record, &mut left))?;
+                json.object(|json| steps.record(json, number, &record))?;
             }
             Ok(())
         })?;
         json.line()?;
-        json.key("cut")?.boolean(left == 0)
+        json.key("cut")?.boolean(steps.most.left == 0)
     })?;
     json.end()
 }
 
-fn write_record(
-    json: &mut Json,
-    reader: &Reader,
-    number: u32,
-    record: &Record,
-    left: &mut u64,
-) -> io::Result<()> {
-    let shown = shown(reader.pattern, number, left);
-    json.key("record")?.number(number)?;
-    json.key("code_at")?.number(record.place)?;
-    json.key("steps")?.array(|json| {
-        for step in &shown.steps {
-            json.line()?;
-            write_step(json, reader, number, record, step)?;
-        }
-        Ok(())
-    })?;
-    match shown.bad {
-        Some(bad) => json.key("unreadable")?.object(|json| {
-            json.key("offset")?.number(bad.offset())?;
-            json.key("what")?.string(&bad.to_string())
-        }),
-        None => Ok(()),
-    }
+/// Writes steps as JSON.
+struct Steps<'p, 'a> {
+    reader: Reader<'p, 'a>,
+    beside: Option<Beside<'p, 'a>>,
+    most: Most,
 }
 
-fn write_step(
-    json: &mut Json,
-    reader: &Reader,
-    number: u32,
-    record: &Record,
-    step: &Step,
-) -> io::Result<()> {
-    let line = reader.pattern.line(number, step.offset);
-    json.object(|json| {
+impl Steps<'_, '_> {
+    fn record(&mut self, json: &mut Json, number: u32, record: &Record) -> io::Result<()> {
+        let shown = shown(self.reader.pattern, number, &mut self.most.left);
+        json.key("record")?.number(number)?;
+        json.key("code_at")?.number(record.place)?;
+        json.key("steps")?.array(|json| {
+            for step in &shown.steps {
+                json.line()?;
+                json.object(|json| self.step(json, number, record, step))?;
+            }
+            Ok(())
+        })?;
+        match shown.bad {
+            Some(bad) => json.key("unreadable")?.object(|json| {
+                json.key("offset")?.number(bad.offset())?;
+                json.key("what")?.string(&bad.to_string())
+            }),
+            None => Ok(()),
+        }
+    }
+
+    fn step(&self, json: &mut Json, number: u32, record: &Record, step: &Step) -> io::Result<()> {
+        let line = self.reader.pattern.line(number, step.offset);
         json.key("offset")?.number(step.offset)?;
         json.key("opcode")?.number(step.opcode)?;
         json.key("name")?
             .string(opcode_name(step.opcode).unwrap_or_default())?;
         json.key("operands")?.array(|json| {
-            for meaning in reader.meanings(number, record, step) {
-                meaning.write(json)?;
+            for meaning in self.reader.meanings(number, record, step) {
+                meaning.write(json, &self.reader, number, self.most.text)?;
             }
             Ok(())
         })?;
-        json.key("line")?.optional(line.map_err(io::Error::other)?)
-    })
+        json.key("line")?
+            .optional(line.map_err(io::Error::other)?)?;
+        match &self.beside {
+            Some(beside) => beside.member(json, number, step.offset, self.most.line),
+            None => Ok(()),
+        }
+    }
 }

@@ -1,10 +1,41 @@
 //! Text of a file, shown safely: whatever could steer a terminal or a page is escaped.
 
 use blotheath::{Constant, Text};
+use std::io;
 use std::path::Path;
 
 /// The bytes of a text that are shown in a table or beside a step.
 pub const SHORT: usize = 48;
+
+/// The characters of a source's line that are shown beside a step.
+pub const LINE: usize = 256;
+
+/// Letters and signs that are drawn as nothing or as a blank: Hangul fillers, the empty Braille cell, the empty note.
+const BLANKS: [char; 6] = [
+    '\u{115f}',
+    '\u{1160}',
+    '\u{2800}',
+    '\u{3164}',
+    '\u{ffa0}',
+    '\u{1d159}',
+];
+
+/// Whether a character is not seen, or changes how others are: control, format, combining and unassigned ones, blanks but the space.
+pub fn is_hidden(character: char) -> bool {
+    if character.is_ascii() {
+        return character.is_ascii_control();
+    }
+    let is_escaped = character.escape_debug().next() == Some('\\');
+    is_escaped || BLANKS.contains(&character)
+}
+
+/// Adds a character as it is, or its escape.
+fn push(shown: &mut String, character: char) {
+    match is_hidden(character) && !character.is_ascii() {
+        true => shown.extend(character.escape_unicode()),
+        false => shown.extend(character.escape_debug()),
+    }
+}
 
 /// Escaped text without quotation marks around it.
 pub fn escaped(bytes: &[u8]) -> String {
@@ -13,7 +44,7 @@ pub fn escaped(bytes: &[u8]) -> String {
         for character in chunk.valid().chars() {
             match character {
                 '\'' => shown.push('\''),
-                other => shown.extend(other.escape_debug()),
+                other => push(&mut shown, other),
             }
         }
         for byte in chunk.invalid() {
@@ -29,7 +60,7 @@ pub fn visible(text: &str) -> String {
     for character in text.chars() {
         match character {
             '\'' | '"' | '\\' => shown.push(character),
-            other => shown.extend(other.escape_debug()),
+            other => push(&mut shown, other),
         }
     }
     shown
@@ -65,31 +96,46 @@ pub fn plain(bytes: &[u8], most: usize) -> String {
     }
 }
 
-/// A symbol as Ruby writes it.
+/// A symbol as Ruby writes it; a long one is cut.
 pub fn symbol(text: Text) -> String {
+    symbol_up_to(text, SHORT)
+}
+
+/// A word of the command line or of an answer, in quotation marks.
+pub fn word(word: &str) -> String {
+    quoted(word.as_bytes(), SHORT)
+}
+
+/// A symbol as Ruby writes it, with at most so many of its bytes.
+pub fn symbol_up_to(text: Text, most: usize) -> String {
     let simple = !text.bytes.is_empty()
-        && text.bytes.len() <= SHORT
+        && text.bytes.len() <= most
         && text.bytes.iter().all(u8::is_ascii_graphic)
         && !text.bytes.iter().any(|byte| b"\"'\\,".contains(byte));
     if simple {
         format!(":{}", escaped(text.bytes))
     } else {
-        format!(":{}", quoted(text.bytes, SHORT))
+        format!(":{}", quoted(text.bytes, most))
     }
 }
 
-/// A constant's value.
+/// A constant's value; a long one is cut.
 pub fn constant(constant: &Constant) -> String {
+    constant_up_to(constant, SHORT)
+}
+
+/// A constant's value, with at most so many bytes of a text or digits of a big integer.
+pub fn constant_up_to(constant: &Constant, most: usize) -> String {
     match constant {
-        Constant::Text(text) => quoted(text.bytes, SHORT),
+        Constant::Text(text) => quoted(text.bytes, most),
         Constant::Int(number) => number.to_string(),
         Constant::Float(number) => format!("{number:?}"),
-        Constant::Big(text) => big(text.bytes),
+        Constant::Big(text) => big(text.bytes, most),
     }
 }
 
-/// A big integer: a base, below 0 for a negative number, and digits.
-pub fn big(bytes: &[u8]) -> String {
+/// A big integer: a base, below 0 for a negative number, and at most so many of its digits.
+pub fn big(bytes: &[u8], most: usize) -> String {
     let (base, digits) = match bytes.split_first() {
         Some((base, digits)) => (*base as i8, digits),
         None => (0, bytes),
@@ -97,10 +143,10 @@ pub fn big(bytes: &[u8]) -> String {
     let radix = u32::from(base.unsigned_abs());
     let is_digit = |byte: &u8| (2..=36).contains(&radix) && char::from(*byte).is_digit(radix);
     if digits.is_empty() || !digits.iter().all(is_digit) {
-        return format!("base {base}, digits {}", quoted(digits, SHORT));
+        return format!("base {base}, digits {}", quoted(digits, most));
     }
     let sign = if base < 0 { "-" } else { "" };
-    let shown = plain(digits, SHORT);
+    let shown = plain(digits, most);
     match radix {
         10 => format!("{sign}{shown}"),
         radix => format!("{sign}{shown} in base {radix}"),
@@ -134,6 +180,22 @@ pub fn path(path: &Path) -> String {
         return "standard input".to_owned();
     }
     escaped(path.as_os_str().as_encoded_bytes())
+}
+
+/// A fault of the system in plain words.
+pub fn fault(fault: &io::Error) -> String {
+    if fault.kind() == io::ErrorKind::NotFound {
+        return "no such file".to_owned();
+    }
+    let told = fault.to_string();
+    match told.split_once(" (os error ") {
+        Some((words, _)) => {
+            let mut characters = words.chars();
+            let first = characters.next().map(|first| first.to_ascii_lowercase());
+            first.into_iter().chain(characters).collect()
+        }
+        None => told,
+    }
 }
 
 /// A number and its noun: "1 record", "2 records".
@@ -171,6 +233,52 @@ mod tests {
     }
 
     #[test]
+    fn what_is_not_seen_is_escaped() {
+        let ranges = [
+            0x80..=0xa0,
+            0xad..=0xad,
+            0x300..=0x36f,
+            0x61c..=0x61c,
+            0x115f..=0x1160,
+            0x180b..=0x180f,
+            0x2000..=0x200f,
+            0x2028..=0x202f,
+            0x205f..=0x206f,
+            0x2800..=0x2800,
+            0x3000..=0x3000,
+            0x3164..=0x3164,
+            0xfe00..=0xfe0f,
+            0xfeff..=0xfeff,
+            0xffa0..=0xffa0,
+            0xfff9..=0xfffb,
+            0x1d173..=0x1d17a,
+            0xe0000..=0xe01ef,
+        ];
+        for character in ranges.into_iter().flatten().filter_map(char::from_u32) {
+            let text = character.to_string();
+            let escape = format!("\\u{{{:x}}}", character as u32);
+            assert_eq!(escaped(text.as_bytes()), escape);
+            assert_eq!(visible(&text), escape);
+            assert_eq!(path(Path::new(&text)), escape);
+        }
+        for character in "aé木\"'\\ ~ßя🧺".chars() {
+            assert!(!is_hidden(character), "{character}");
+        }
+    }
+
+    #[test]
+    fn faults_in_plain_words() {
+        for (number, words) in [(2, "no such file"), (13, "permission denied")] {
+            assert_eq!(fault(&io::Error::from_raw_os_error(number)), words);
+        }
+        for number in 1..134 {
+            let words = fault(&io::Error::from_raw_os_error(number));
+            assert!(!words.contains("os error") && !words.is_empty(), "{words}");
+        }
+        assert_eq!(fault(&io::Error::other("a fault")), "a fault");
+    }
+
+    #[test]
     fn long_texts_are_cut() {
         assert_eq!(quoted(b"abc", 3), "\"abc\"");
         assert_eq!(quoted(b"abcd", 3), "\"abc\"... (4 bytes)");
@@ -180,11 +288,11 @@ mod tests {
 
     #[test]
     fn numbers() {
-        assert_eq!(big(b"\x0a123"), "123");
-        assert_eq!(big(b"\xf6123"), "-123");
-        assert_eq!(big(b"\x10ff"), "ff in base 16");
-        assert_eq!(big(b"\x02129"), "base 2, digits \"129\"");
-        assert_eq!(big(b""), "base 0, digits \"\"");
+        assert_eq!(big(b"\x0a123", SHORT), "123");
+        assert_eq!(big(b"\xf6123", SHORT), "-123");
+        assert_eq!(big(b"\x10ff", SHORT), "ff in base 16");
+        assert_eq!(big(b"\x02129", SHORT), "base 2, digits \"129\"");
+        assert_eq!(big(b"", SHORT), "base 0, digits \"\"");
         assert_eq!(grouped(1_234_567), "1,234,567");
         assert_eq!(counted(1, "row"), "1 row");
         assert_eq!(counted(0, "row"), "0 rows");

@@ -1,7 +1,7 @@
 //! The verdict on a file, and where a refusal lies.
 
 use super::json::Json;
-use super::text::{counted, escaped};
+use super::text::{counted, visible};
 use blotheath::{Counts, Pattern, Place, Refusal, examine, load, locate};
 use std::io;
 
@@ -26,9 +26,7 @@ pub fn judge(file: &[u8]) -> Verdict<'_> {
         true => load(file).ok(),
         false => None,
     };
-    let place = pattern
-        .as_ref()
-        .and_then(|pattern| locate(pattern, refusal));
+    let place = locate(file, pattern.as_ref(), refusal);
     Verdict::Refused {
         refusal,
         place,
@@ -49,14 +47,19 @@ impl<'a> Verdict<'a> {
         }
     }
 
+    /// The byte of the file that a refusal points at.
+    pub fn byte(&self) -> Option<usize> {
+        match self {
+            Verdict::Refused { place, .. } => Some(place.as_ref()?.byte? as usize),
+            Verdict::Passes(_) => None,
+        }
+    }
+
     /// The verdict in one line.
     pub fn sentence(&self) -> String {
         match self {
             Verdict::Passes(pattern) => format!("passes: {}", counts(pattern.counts())),
-            Verdict::Refused { refusal, place, .. } => match place {
-                Some(place) => format!("{refusal} ({})", told(place)),
-                None => refusal.to_string(),
-            },
+            Verdict::Refused { refusal, place, .. } => refused(*refusal, place.as_ref()),
         }
     }
 
@@ -68,14 +71,27 @@ impl<'a> Verdict<'a> {
                 .key("rows")?
                 .object(|json| count_members(json, pattern.counts())),
             Verdict::Refused { refusal, place, .. } => {
-                json.key("refusal")?.number(refusal.number())?;
-                json.key("sentence")?.string(refusal.sentence())?;
-                match place {
-                    Some(place) => json.key("place")?.object(|json| place_members(json, place)),
-                    None => Ok(()),
-                }
+                refusal_members(json, *refusal, place.as_ref())
             }
         }
+    }
+}
+
+/// A refusal in one line, with its place.
+pub fn refused(refusal: Refusal, place: Option<&Place>) -> String {
+    match place {
+        Some(place) => format!("{refusal} ({})", told(place)),
+        None => refusal.to_string(),
+    }
+}
+
+/// A refusal and its place as members of a JSON object.
+pub fn refusal_members(json: &mut Json, refusal: Refusal, place: Option<&Place>) -> io::Result<()> {
+    json.key("refusal")?.number(refusal.number())?;
+    json.key("sentence")?.string(refusal.sentence())?;
+    match place {
+        Some(place) => json.key("place")?.object(|json| place_members(json, place)),
+        None => Ok(()),
     }
 }
 
@@ -92,17 +108,11 @@ fn counts(counts: Counts) -> String {
 
 /// A place in words.
 pub fn told(place: &Place) -> String {
-    let mut parts = Vec::new();
-    if let Some(record) = place.record {
-        parts.push(format!("record {record}"));
+    let mut parts: Vec<String> = place.section.iter().map(|name| name.to_string()).collect();
+    for (name, number) in numbers(place) {
+        parts.extend(number.map(|number| format!("{name} {number}")));
     }
-    if let Some(offset) = place.offset {
-        parts.push(format!("offset {offset}"));
-    }
-    if let Some(line) = place.line {
-        parts.push(format!("line {line}"));
-    }
-    let what = escaped(place.what.as_bytes());
+    let what = visible(&place.what);
     match parts.is_empty() {
         true => what,
         false => format!("{}: {what}", parts.join(", ")),
@@ -132,12 +142,22 @@ pub fn named(counts: Counts) -> [(&'static str, u32); 9] {
     ]
 }
 
-fn place_members(json: &mut Json, place: &Place) -> io::Result<()> {
-    for (name, number) in [
+/// The numbers of a place with their names.
+fn numbers(place: &Place) -> [(&'static str, Option<u32>); 4] {
+    [
         ("record", place.record),
         ("offset", place.offset),
         ("line", place.line),
-    ] {
+        ("byte", place.byte),
+    ]
+}
+
+fn place_members(json: &mut Json, place: &Place) -> io::Result<()> {
+    match place.section {
+        Some(section) => json.key("section")?.string(section)?,
+        None => json.key("section")?.null()?,
+    }
+    for (name, number) in numbers(place) {
         json.key(name)?.optional(number)?;
     }
     json.key("what")?.string(&place.what)

@@ -42,6 +42,11 @@ impl Value {
         }
     }
 
+    /// Whether an object has a member.
+    pub fn has(&self, name: &str) -> bool {
+        matches!(self, Value::Object(members) if members.iter().any(|(key, _)| key == name))
+    }
+
     pub fn is_true(&self) -> bool {
         *self == Value::Boolean(true)
     }
@@ -164,14 +169,22 @@ impl Reader<'_> {
             b'n' => bytes.push(b'\n'),
             b'"' | b'\\' => bytes.push(byte),
             b'u' => {
-                let digits = std::str::from_utf8(&self.bytes[self.at..self.at + 4]).unwrap();
-                let number = u32::from_str_radix(digits, 16).unwrap();
-                self.at += 4;
-                let character = char::from_u32(number).unwrap();
-                bytes.extend(character.to_string().bytes());
+                let mut units = vec![self.unit()];
+                if (0xd800..0xdc00).contains(&units[0]) {
+                    self.expect("\\u");
+                    units.push(self.unit());
+                }
+                bytes.extend(String::from_utf16(&units).unwrap().bytes());
             }
             other => panic!("an escape of {other}"),
         }
+    }
+
+    /// Four hexadecimal digits.
+    fn unit(&mut self) -> u16 {
+        let digits = std::str::from_utf8(&self.bytes[self.at..self.at + 4]).unwrap();
+        self.at += 4;
+        u16::from_str_radix(digits, 16).unwrap()
     }
 
     fn number(&mut self) -> Value {

@@ -57,22 +57,47 @@ pub fn run(words: &[&str]) -> Ran {
 
 /// Runs the command in 64 MB of address space, with what its own file takes on top.
 pub fn run_in_64_mb(words: &[&str]) -> Ran {
+    run_in_64_mb_with(words, b"")
+}
+
+pub fn run_in_64_mb_with(words: &[&str], input: &[u8]) -> Ran {
     let command = env!("CARGO_BIN_EXE_blotheath");
     let own = fs::metadata(command).unwrap().len() / 1024;
-    run_limited(&format!("ulimit -v {}", 65_536 + own), words)
+    run_behind(&format!("ulimit -v {}", 65_536 + own), words, input)
 }
 
 /// Runs the command where the shell gives so many KiB of stack.
 pub fn run_in_stack(kib: u32, words: &[&str]) -> Ran {
-    run_limited(&format!("ulimit -s {kib}"), words)
+    run_behind(&format!("ulimit -s {kib}"), words, b"")
 }
 
-/// Runs the command behind a line of shell that sets a limit.
-fn run_limited(limit: &str, words: &[&str]) -> Ran {
+/// Runs the command behind a line of shell, which may set a limit.
+pub fn run_behind(line: &str, words: &[&str], input: &[u8]) -> Ran {
+    run_in_shell(&format!("{line}; exec \"$0\" \"$@\""), words, input)
+}
+
+/// Runs a line of shell in which `"$0" "$@"` is the command with these words.
+pub fn run_in_shell(line: &str, words: &[&str], input: &[u8]) -> Ran {
     let command = env!("CARGO_BIN_EXE_blotheath");
-    let script = format!("{limit}; exec \"$0\" \"$@\"");
     let mut shell = Command::new("sh");
-    finish(shell.args(["-c", &script, command]).args(words), b"")
+    finish(shell.args(["-c", line, command]).args(words), input)
+}
+
+/// The exit status of the command where nobody reads its output.
+pub fn status_unread(words: &[&str]) -> Option<i32> {
+    let command = env!("CARGO_BIN_EXE_blotheath");
+    let mut child = Command::new("sh")
+        .args(["-c", "read line; exec \"$0\" \"$@\"", command])
+        .args(words)
+        .stdin(Stdio::piped())
+        .stdout(Stdio::piped())
+        .spawn()
+        .unwrap();
+    drop(child.stdout.take());
+    let mut stdin = child.stdin.take().unwrap();
+    stdin.write_all(b"\n").unwrap();
+    drop(stdin);
+    child.wait().unwrap().code()
 }
 
 /// Runs a command to its end; a panic or a signal fails the test.

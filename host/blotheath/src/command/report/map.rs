@@ -1,17 +1,35 @@
 //! A picture of the file from its first byte to its last.
 
-use super::html::escape;
+use crate::command::text::counted;
 use blotheath::Pattern;
+use std::fmt;
 use std::io::{self, Write};
 
 const WIDTH: f64 = 1000.0;
 
-/// The most records and constants that are drawn.
-const MOST_DRAWN: usize = 2_000;
+/// The most sections, records and constants that are drawn: a file holds no more sections.
+const MOST_DRAWN: usize = 8_192;
+
+/// The name of a part, which takes no memory of its own: there are many.
+enum Name {
+    Section(&'static str),
+    Record(u32),
+    Constant(u32, u32),
+}
+
+impl fmt::Display for Name {
+    fn fmt(&self, f: &mut fmt::Formatter) -> fmt::Result {
+        match self {
+            Name::Section(name) => f.write_str(name),
+            Name::Record(number) => write!(f, "{number}"),
+            Name::Constant(record, index) => write!(f, "constant {index} of record {record}"),
+        }
+    }
+}
 
 /// A part of the file with its name.
 struct Part {
-    name: String,
+    name: Name,
     class: &'static str,
     start: usize,
     end: usize,
@@ -19,8 +37,8 @@ struct Part {
 
 /// The header and the sections of a file that loads.
 fn sections(file: &[u8]) -> Vec<Part> {
-    let part = |name: &str, class, start, end: usize| Part {
-        name: name.to_owned(),
+    let part = |name, class, start, end: usize| Part {
+        name: Name::Section(name),
         class,
         start,
         end: end.min(file.len()),
@@ -39,7 +57,7 @@ fn sections(file: &[u8]) -> Vec<Part> {
             b"END\0" => ("END", "end"),
             _ => break,
         };
-        if size == 0 || parts.len() >= MOST_DRAWN {
+        if size == 0 {
             break;
         }
         parts.push(part(name, class, start, start + size));
@@ -56,7 +74,7 @@ fn records(pattern: &Pattern) -> Vec<Part> {
         .map(|(number, record): (u32, _)| {
             let start = (record.place as usize).saturating_sub(16);
             Part {
-                name: number.to_string(),
+                name: Name::Record(number),
                 class: if number % 2 == 0 { "even" } else { "odd" },
                 start,
                 end: (start + record.size as usize).min(length),
@@ -75,7 +93,7 @@ fn constants(pattern: &Pattern) -> Vec<Part> {
             let (_, bytes) = pattern.constant_bytes(number, index).ok()?;
             let start = bytes.place as usize;
             Some(Part {
-                name: format!("constant {index} of record {number}"),
+                name: Name::Constant(number, index),
                 class: "constant",
                 start,
                 end: start + bytes.bytes.len().max(1),
@@ -94,7 +112,7 @@ pub fn write(out: &mut dyn Write, pattern: &Pattern) -> io::Result<()> {
     let total = 104;
     writeln!(
         out,
-        "<svg class=\"map\" viewBox=\"0 0 1090 {total}\" role=\"img\" aria-label=\"The parts of the file\">"
+        "<div class=\"scroll\"><svg class=\"map\" viewBox=\"0 0 1090 {total}\" role=\"img\" aria-label=\"The parts of the file\">"
     )?;
     let mut top = 2.0;
     for (title, parts, height) in rows {
@@ -121,7 +139,14 @@ pub fn write(out: &mut dyn Write, pattern: &Pattern) -> io::Result<()> {
             "<text class=\"scale\" x=\"{x}\" y=\"96\" text-anchor=\"{anchor}\">{byte}</text>"
         )?;
     }
-    writeln!(out, "</svg>")
+    writeln!(out, "</svg></div>")?;
+    match (pattern.counts().constants as usize).saturating_sub(MOST_DRAWN) {
+        0 => Ok(()),
+        more => {
+            let more = counted(more as u64, "more constant");
+            writeln!(out, "<p class=\"note\">{more}, not drawn.</p>")
+        }
+    }
 }
 
 fn write_part(
@@ -137,14 +162,14 @@ fn write_part(
         85.0 + scale(part.end.max(part.start)),
     );
     let width = (end - x).max(1.0);
-    let name = escape(&part.name);
+    let name = &part.name;
     writeln!(
         out,
         "<rect class=\"{}\" x=\"{x:.1}\" y=\"{top}\" width=\"{width:.1}\" height=\"{height}\"><title>{name}: bytes {} to {}</title></rect>",
         part.class, part.start, part.end
     )?;
-    let room = part.name.chars().count() as f64 * 6.6 + 8.0;
-    if width > room && height > 15.0 {
+    // Only high rows have names in them.
+    if height > 15.0 && width > part.name.to_string().len() as f64 * 6.6 + 8.0 {
         writeln!(
             out,
             "<text class=\"partname\" x=\"{:.1}\" y=\"{}\" text-anchor=\"middle\">{name}</text>",

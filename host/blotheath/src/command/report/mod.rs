@@ -1,20 +1,30 @@
 //! `blotheath report`: one page for an auditor.
 
+mod cards;
+mod checklist;
+mod constants;
+mod date;
+mod fold;
+mod foot;
+mod hex;
 mod html;
 mod map;
+mod outline;
+mod output;
 mod page;
 mod proof;
-mod source;
 mod steps;
 mod tree;
 
+use super::beside::stranger;
+use super::source::{self, Source};
 use super::text;
 use super::verdict::judge;
-use super::{Status, input, unusable};
+use super::{Status, complain, input, unusable};
+use output::Output;
 use page::Page;
-use source::Source;
-use std::fs::{self, File};
-use std::io::{self, BufWriter, Write};
+use std::fs;
+use std::io::{self, Write};
 use std::path::Path;
 
 pub fn run(
@@ -22,47 +32,53 @@ pub fn run(
     path: &Path,
     output: Option<&Path>,
     source: Option<&Path>,
+    force: bool,
 ) -> io::Result<Status> {
     let name = text::path(path);
     let file = match input::read(path) {
         Ok(file) => file,
         Err(fault) => return Ok(unusable(&name, &fault)),
     };
+    let read = [Some(input::metadata(path)), source.map(fs::metadata)];
+    let read = read.into_iter().flatten().flatten();
+    let read: Vec<_> = read.map(|read| input::identity(&read)).collect();
     let source = match source.map(Source::read).transpose() {
         Ok(source) => source,
         Err((name, fault)) => return Ok(unusable(&name, &fault)),
     };
+    let output_name = match output {
+        Some(output) if output != Path::new("-") => text::path(output),
+        _ => "standard output".to_owned(),
+    };
+    let output = match Output::of(output, &read, force) {
+        Ok(output) => output,
+        Err(fault) => return Ok(unusable(&output_name, &fault)),
+    };
     let verdict = judge(&file);
+    if let (Some(source), Some(pattern)) = (&source, verdict.pattern())
+        && let Some(fault) = stranger(source, pattern)
+    {
+        complain(&fault);
+    }
     let page = Page {
         name: &name,
         file: &file,
         verdict: &verdict,
         source: source.as_ref(),
     };
-    match output.filter(|output| *output != Path::new("-")) {
-        None => page.write(out)?,
-        Some(output) => {
-            if let Err(fault) = write_file(path, output, &page) {
-                return Ok(unusable(&text::path(output), &fault));
-            }
-            let sentence = verdict.sentence();
-            writeln!(out, "{name}: {sentence}")?;
-            writeln!(out, "{} is written", text::path(output))?;
+    let written = output.write(out, |out| page.write(out));
+    if let Output::Standard = output {
+        written?;
+    } else {
+        if let Err(fault) = written {
+            return Ok(unusable(&output_name, &fault));
         }
+        let sentence = verdict.sentence();
+        writeln!(out, "{name}: {sentence}")?;
+        writeln!(out, "{output_name} is written")?;
     }
     Ok(match verdict.passes() {
         true => Status::Passed,
         false => Status::Refused,
     })
-}
-
-/// Writes the page to a file, which must not be the pattern itself.
-fn write_file(path: &Path, output: &Path, page: &Page) -> io::Result<()> {
-    let same = |a: &Path, b: &Path| Some(fs::canonicalize(a).ok()? == fs::canonicalize(b).ok()?);
-    if same(path, output) == Some(true) {
-        return Err(io::Error::other("this is the pattern itself"));
-    }
-    let mut out = BufWriter::new(File::create(output)?);
-    page.write(&mut out)?;
-    out.flush()
 }

@@ -1,14 +1,16 @@
 //! The page.
 
-use super::html::escape;
+use super::html::{css, escape};
+use super::output::{MARK, VERSION};
 use super::source::Source;
-use super::{map, proof, steps, tree};
+use super::{cards, checklist, constants, foot, hex, map, outline, proof, steps, tree};
 use crate::command::labels::labels;
 use crate::command::meaning::Reader;
 use crate::command::sha256;
 use crate::command::text::{self, counted, grouped};
 use crate::command::verdict::{Verdict, told};
-use blotheath::{FILE_LIMIT, PROVED, Pattern, Tree};
+use blotheath::{DOUBT, FILE_LIMIT, Pattern, Place, Refusal, Tree};
+use std::collections::BTreeSet;
 use std::io::{self, Write};
 
 /// What the page is about.
@@ -21,83 +23,147 @@ pub struct Page<'p> {
 
 const STYLE: &str = include_str!("page.css");
 
-/// The most constants of a page.
-const MOST_CONSTANTS: usize = 5_000;
+/// The most characters of a name in the head of a printed page.
+const MOST_RUNNING: usize = 60;
+
+/// The most names of debug files that are told where none is the source's.
+const MOST_NAMES: usize = 8;
 
 impl Page<'_> {
     pub fn write(&self, out: &mut dyn Write) -> io::Result<()> {
-        let name = escape(self.name);
         writeln!(
             out,
-            "<!DOCTYPE html>\n<html lang=\"en\"><head><meta charset=\"utf-8\">\n<meta name=\"viewport\" \
+            "<!DOCTYPE html>\n<html lang=\"en\"><head><meta charset=\"utf-8\">\n{MARK}{VERSION}\">\n<meta name=\"viewport\" \
              content=\"width=device-width, initial-scale=1\">\n<meta http-equiv=\"Content-Security-Policy\" \
-             content=\"default-src 'none'; style-src 'unsafe-inline'\">\n<title>{name}: Blotheath report</title>\n<style>\n\
-             {STYLE}</style></head><body><main>"
+             content=\"default-src 'none'; style-src 'unsafe-inline'\">\n<title>{}: Blotheath report</title>\n<style>\n\
+             {STYLE}{}</style></head><body><main>",
+            escape(self.file_name()),
+            self.running_head()
         )?;
         self.head(out)?;
-        let Some(pattern) = self.verdict.pattern() else {
-            self.proof(out)?;
-            return self.end(out);
-        };
-        self.questions(out)?;
+        match self.verdict.pattern() {
+            Some(pattern) => self.body(out, pattern)?,
+            None => {
+                cards::write(out, self.verdict, 0)?;
+                checklist::write(out, self.verdict)?;
+            }
+        }
+        self.proof(out)?;
+        foot::write(out, self)?;
+        writeln!(out, "</main></body></html>")
+    }
+
+    /// What is shown of a file that loads.
+    fn body(&self, out: &mut dyn Write, pattern: &Pattern) -> io::Result<()> {
+        let extent = constants::Extent::of(pattern);
+        cards::write(out, self.verdict, extent.left)?;
+        checklist::write(out, self.verdict)?;
         let tree = Tree::of(pattern);
         let labels = labels(pattern, &tree);
-        writeln!(out, "<section><h2>Records</h2>")?;
-        tree::write(out, pattern, &tree, &labels)?;
+        writeln!(out, "<section id=\"records\"><h2>Records</h2>")?;
+        let class = match tree::write(out, pattern, &tree, &labels)? {
+            true => "instead",
+            false => "alone",
+        };
+        outline::write(out, pattern, &tree, &labels, class)?;
         writeln!(
             out,
             "</section><section><h2>The file from its first byte to its last</h2>"
         )?;
         map::write(out, pattern)?;
         writeln!(out, "</section>")?;
-        constants(out, pattern)?;
-        writeln!(out, "<section><h2>Steps</h2></section>")?;
+        constants::write(out, pattern, &extent)?;
+        writeln!(out, "<h2>Steps</h2>")?;
         let reader = Reader {
             pattern,
             tree: &tree,
         };
-        steps::write(out, &reader, &labels, self.source)?;
-        self.proof(out)?;
-        self.end(out)
+        steps::write(out, &reader, &labels, self.source, &extent, self.fault())
+    }
+
+    /// The file's name without its folder.
+    pub fn file_name(&self) -> &str {
+        let name = self.name.rsplit('/').find(|part| !part.is_empty());
+        name.unwrap_or(self.name)
+    }
+
+    /// The refusal and its place, where it has one.
+    fn fault(&self) -> Option<(Refusal, &Place)> {
+        match self.verdict {
+            Verdict::Refused {
+                refusal,
+                place: Some(place),
+                ..
+            } => Some((*refusal, place)),
+            _ => None,
+        }
+    }
+
+    /// The style of the head of each printed page: the file's name and the verdict.
+    fn running_head(&self) -> String {
+        let name = self.file_name();
+        let mut shown: String = name.chars().take(MOST_RUNNING).collect();
+        if shown.len() < name.len() {
+            shown.push('…');
+        }
+        let verdict = match self.verdict {
+            Verdict::Passes(_) => "passes".to_owned(),
+            Verdict::Refused { refusal, .. } => format!("refused by {}", refusal.number()),
+        };
+        format!(
+            "@page {{ @top-left {{ content: {}; }} @top-right {{ content: {}; }} }}\n",
+            css(&format!("Blotheath report: {shown}")),
+            css(&verdict)
+        )
     }
 
     fn head(&self, out: &mut dyn Write) -> io::Result<()> {
-        let (folder, name) = match self.name.rsplit_once('/') {
-            Some((folder, name)) => (format!("{folder}/"), name),
-            None => (String::new(), self.name),
-        };
         writeln!(
             out,
-            "<header><p class=\"eyebrow\">Blotheath report</p><h1><span class=\"folder\">{}</span>{}</h1>",
-            escape(&folder),
-            escape(name)
+            "<header><p class=\"eyebrow\">Blotheath report</p><h1>{}</h1>",
+            escape(self.file_name())
         )?;
-        if !PROVED {
-            writeln!(out, "{}", proof::WARNING)?;
+        if let Some(doubt) = DOUBT {
+            writeln!(out, "{}", proof::warning(doubt))?;
         }
         match self.verdict {
             Verdict::Passes(_) => writeln!(
                 out,
                 "<p class=\"verdict passes\"><strong>Passes</strong> <span>It loads, and it meets none of the refusals 15 to 20.</span></p>"
             )?,
-            Verdict::Refused { refusal, place, .. } => {
-                writeln!(
-                    out,
-                    "<p class=\"verdict refused\"><strong>Refused by {}</strong> <span>{}</span></p>",
-                    refusal.number(),
-                    escape(&sentence(refusal.sentence()))
-                )?;
-                if let Some(place) = place {
-                    writeln!(
-                        out,
-                        "<p class=\"place\">{}</p>",
-                        escape(&sentence(&told(place)))
-                    )?;
-                }
-            }
+            Verdict::Refused { refusal, .. } => writeln!(
+                out,
+                "<p class=\"verdict refused\"><strong>Refused by {}</strong> <span>{}</span></p>",
+                refusal.number(),
+                escape(&sentence(refusal.sentence()))
+            )?,
+        }
+        if let Some((_, place)) = self.fault() {
+            self.place(out, place)?;
         }
         self.facts(out)?;
+        if let Some(told) = self.other_source() {
+            writeln!(out, "<p class=\"caution\">{}</p>", escape(&told))?;
+        }
         writeln!(out, "</header>")
+    }
+
+    /// Where the refusal lies, with a link to it where the page shows it.
+    fn place(&self, out: &mut dyn Write, place: &Place) -> io::Result<()> {
+        let link = match (self.verdict.pattern(), place.record) {
+            (Some(_), Some(_)) => " <a href=\"#bad\">See it among the steps.</a>",
+            (Some(_), None) => " <a href=\"#records\">See the records.</a>",
+            (None, _) => "",
+        };
+        writeln!(
+            out,
+            "<p class=\"place\">{}{link}</p>",
+            escape(&sentence(&told(place)))
+        )?;
+        match place.byte {
+            Some(byte) => hex::write(out, self.file, byte),
+            None => Ok(()),
+        }
     }
 
     fn facts(&self, out: &mut dyn Write) -> io::Result<()> {
@@ -128,35 +194,34 @@ impl Page<'_> {
         writeln!(out, "</dl>")
     }
 
-    /// The auditor's three questions.
-    fn questions(&self, out: &mut dyn Write) -> io::Result<()> {
-        let last = match self.verdict.passes() {
-            true => "No. Every run stays where instructions begin.",
-            false => "It may: the file is refused. Nothing is said of its runs.",
+    /// Why the lines of the source are not shown, where they are not.
+    fn other_source(&self) -> Option<String> {
+        let source = self.source?;
+        let name = text::escaped(source.name());
+        let Some(pattern) = self.verdict.pattern() else {
+            return Some(format!(
+                "The file does not load, so the lines of {name} are not shown."
+            ));
         };
-        let asked = [
-            (
-                "Is a constant on the sheet the constant in the file?",
-                "Those below are, each with the place of its bytes.",
-            ),
-            (
-                "Is the line shown beside a step the line that made it?",
-                "Lines below are those of the file’s own line maps.",
-            ),
-            (
-                "Can a run of the pattern wander into bytes that are no step?",
-                last,
-            ),
-        ];
-        writeln!(out, "<section class=\"questions\">")?;
-        let doubt = match PROVED {
-            true => "",
-            false => " Not proved in this build.",
-        };
-        for (question, answer) in asked {
-            writeln!(out, "<div><h3>{question}</h3><p>{answer}{doubt}</p></div>")?;
+        let names = debug_names(pattern);
+        if names.iter().any(|name| source.is_of(name)) {
+            return None;
         }
-        writeln!(out, "</section>")
+        if names.is_empty() {
+            return Some(format!(
+                "The file has no line maps, so the lines of {name} are not shown."
+            ));
+        }
+        let shown = names.iter().take(MOST_NAMES);
+        let mut shown: Vec<String> = shown.map(|name| text::plain(name, text::SHORT)).collect();
+        if names.len() > MOST_NAMES {
+            let more = counted((names.len() - MOST_NAMES) as u64, "more name");
+            shown.push(format!("and {more}"));
+        }
+        Some(format!(
+            "{name} is not a file that the line maps name: {}; its lines are not shown.",
+            shown.join(", ")
+        ))
     }
 
     fn proof(&self, out: &mut dyn Write) -> io::Result<()> {
@@ -167,14 +232,15 @@ impl Page<'_> {
         proof::write(out)?;
         writeln!(out, "</section>")
     }
+}
 
-    fn end(&self, out: &mut dyn Write) -> io::Result<()> {
-        writeln!(
-            out,
-            "<footer>blotheath {} · numbers of refusals are those of the format’s paper</footer></main></body></html>",
-            env!("CARGO_PKG_VERSION")
-        )
-    }
+/// The names of the debug files that have lines.
+fn debug_names<'a>(pattern: &Pattern<'a>) -> BTreeSet<&'a [u8]> {
+    let files = (0..).zip(pattern.records()).flat_map(|(number, record)| {
+        (0..record.files.number).filter_map(move |index| pattern.debug_file(number, index).ok())
+    });
+    let files = files.filter(|file| file.lines.number > 0);
+    files.map(|file| file.name.bytes).collect()
 }
 
 /// Words as a sentence.
@@ -186,53 +252,40 @@ fn sentence(words: &str) -> String {
     }
 }
 
-/// The constants with where they stand in the file.
-fn constants(out: &mut dyn Write, pattern: &Pattern) -> io::Result<()> {
-    let number = pattern.counts().constants as usize;
-    writeln!(out, "<section><h2>Constants</h2>")?;
-    if number == 0 {
-        return writeln!(out, "<p class=\"note\">The file has none.</p></section>");
-    }
-    writeln!(
-        out,
-        "<table class=\"constants\"><thead><tr><th class=\"number\">record</th><th class=\"number\">index</th><th>kind</th><th>value</th>\
-         <th class=\"number\">at byte</th><th class=\"number\">length</th><th>bytes</th></tr></thead><tbody>"
-    )?;
-    let all = (0..).zip(pattern.records()).flat_map(|(number, record)| {
-        (0..record.constants.number).map(move |index| (number, index))
-    });
-    for (record, index) in all.take(MOST_CONSTANTS) {
-        write_constant(out, pattern, record, index)?;
-    }
-    writeln!(out, "</tbody></table>")?;
-    if number > MOST_CONSTANTS {
-        let more = counted((number - MOST_CONSTANTS) as u64, "more constant");
-        writeln!(
-            out,
-            "<p class=\"note\">{more}; <code>blotheath load</code> shows them.</p>"
-        )?;
-    }
-    writeln!(out, "</section>")
-}
+#[cfg(test)]
+mod tests {
+    use super::*;
 
-fn write_constant(
-    out: &mut dyn Write,
-    pattern: &Pattern,
-    record: u32,
-    index: u32,
-) -> io::Result<()> {
-    let constant = pattern.constant(record, index).map_err(io::Error::other)?;
-    let (_, bytes) = pattern
-        .constant_bytes(record, index)
-        .map_err(io::Error::other)?;
-    writeln!(
-        out,
-        "<tr id=\"k{record}-{index}\"><td class=\"number\"><a href=\"#r{record}\">{record}</a></td><td class=\"number\">{index}</td>\
-         <td>{}</td><td class=\"value\">{}</td><td class=\"number\">{}</td><td class=\"number\">{}</td><td class=\"hex\">{}</td></tr>",
-        text::kind(&constant),
-        escape(&text::constant(&constant)),
-        bytes.place,
-        bytes.bytes.len(),
-        text::hex(bytes.bytes, 16)
-    )
+    fn shown(file: &[u8], place: Place) -> String {
+        let verdict = Verdict::Refused {
+            refusal: Refusal(5),
+            place: Some(place),
+            pattern: None,
+        };
+        let page = Page {
+            name: "folder/a.mrb",
+            file,
+            verdict: &verdict,
+            source: None,
+        };
+        let mut out = Vec::new();
+        page.write(&mut out).unwrap();
+        String::from_utf8(out).unwrap()
+    }
+
+    #[test]
+    fn the_byte_of_a_refusal_is_shown() {
+        let place = Place {
+            section: Some("IREP"),
+            byte: Some(20),
+            record: None,
+            offset: None,
+            line: None,
+            what: "the mark is IREQ".to_owned(),
+        };
+        let page = shown(b"RITE0400____________IREQ", place);
+        assert!(page.contains("<mark>49</mark>") && page.contains("<mark>I</mark>"));
+        assert!(page.contains("he mark is IREQ."));
+        assert!(!page.contains("href=\"#"));
+    }
 }

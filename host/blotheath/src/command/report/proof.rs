@@ -27,13 +27,17 @@ const TRUSTED: [&str; 4] = [
     "The definitions in crates/format/specs say what the format is. They are short, and are to be read beside the format's paper.",
     "The logic and the compiler of the Rattle kit, and the call from this program into the proved archive.",
     "This program reads the file, asks the proved archive, and draws this page. It is tested, not proved. Names of opcodes, words \
-     for arguments and parameters, labels of records, jumps, pictures, and the place of a refusal are its own.",
+     for arguments and parameters, labels of records, jumps, pictures, and the place of a refusal, with how far each condition was \
+     looked at, are its own.",
     "Nothing proves that a source text shown here is the text that the pattern was made from.",
 ];
 
-/// What a page of a build without the archive says.
-pub const WARNING: &str = "<p class=\"warning\"><strong>Nothing on this page is proved.</strong> This build asks a plain model of \
-                           the format instead of the proved archive.</p>";
+/// What a page says of which nothing is proved, and why.
+pub fn warning(doubt: &str) -> String {
+    format!(
+        "<p class=\"warning\"><strong>Nothing on this page is proved</strong> by this build: {doubt}.</p>"
+    )
+}
 
 pub fn write(out: &mut dyn Write) -> io::Result<()> {
     writeln!(

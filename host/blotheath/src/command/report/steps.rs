@@ -1,24 +1,31 @@
 //! The steps of each record beside their source lines.
 
-use super::html::{self, escape};
+use super::constants::{self, Extent};
+use super::fold::{self, Room};
+use super::html::{self, Escaped, escape};
 use super::source::Source;
+use crate::command::MOST_SHOWN;
 use crate::command::arrows::Margin;
 use crate::command::load::handler_kind;
 use crate::command::meaning::{Meaning, Reader};
 use crate::command::steps::{Shown, margin, shown};
 use crate::command::text::{self, counted};
-use blotheath::{Constant, DebugFile, Record, Step, opcode_name};
+use blotheath::{
+    BadStep, Constant, DebugFile, FILE_LIMIT, Handler, Place, Record, Refusal, Sources, Step, Text,
+    opcode_name,
+};
+use std::cell::Cell;
 use std::io::{self, Write};
 
-/// The most steps of a page.
-const MOST_STEPS: u64 = 20_000;
-
-/// The most handlers of a record.
-const MOST_HANDLERS: u32 = 50;
+/// The most handlers of a page: a file whose records do not overlap has no more.
+const MOST_HANDLERS: u32 = FILE_LIMIT as u32 / 13;
 
 /// The height of a step's row, and the width of a lane of jumps, in pixels.
 const ROW: usize = 22;
 const LANE: usize = 10;
+
+/// A height that no row reaches: what is drawn below a row's end is not seen.
+const BELOW: usize = 99_999;
 
 /// Writes the steps of all records.
 pub fn write(
@@ -26,24 +33,23 @@ pub fn write(
     reader: &Reader,
     labels: &[String],
     source: Option<&Source>,
+    extent: &Extent,
+    fault: Option<(Refusal, &Place)>,
 ) -> io::Result<()> {
-    let mut left = MOST_STEPS;
-    let records = reader.pattern.counts().records;
+    let mut left = MOST_SHOWN;
+    let room = Room::new(fold::ROOM);
+    let handlers = Cell::new(MOST_HANDLERS);
     for (number, record) in (0..).zip(reader.pattern.records()) {
-        if left == 0 {
-            let more = counted(u64::from(records - number), "more record");
-            writeln!(
-                out,
-                "<p class=\"note\">{more}; <code>blotheath steps</code> shows them.</p>"
-            )?;
-            return Ok(());
-        }
         let shown = shown(reader.pattern, number, &mut left);
         let view = View {
             reader,
             number,
             record: &record,
             source,
+            extent,
+            room: &room,
+            handlers: &handlers,
+            fault: fault.filter(|(_, place)| place.record == Some(number)),
             margin: margin(&shown.steps),
         };
         view.write(out, &labels[number as usize], &shown)?;
@@ -57,7 +63,23 @@ struct View<'v> {
     number: u32,
     record: &'v Record,
     source: Option<&'v Source>,
+    /// The constants that the page shows.
+    extent: &'v Extent,
+    /// What the page still has room for.
+    room: &'v Room,
+    handlers: &'v Cell<u32>,
+    /// The refusal, where it lies in this record.
+    fault: Option<(Refusal, &'v Place)>,
     margin: Margin,
+}
+
+/// What of a record is marked as refused.
+#[derive(PartialEq, Clone, Copy)]
+enum Mark {
+    Step(u32),
+    Handler(u32),
+    /// The record as a whole: what is refused has no row.
+    Record,
 }
 
 /// Where a step comes from: a debug file's name and a line.
@@ -67,7 +89,7 @@ struct Origin<'v> {
     line: Option<u32>,
 }
 
-impl View<'_> {
+impl<'v> View<'v> {
     fn write(&self, out: &mut dyn Write, label: &str, shown: &Shown) -> io::Result<()> {
         let (number, record) = (self.number, self.record);
         let about = [
@@ -86,44 +108,117 @@ impl View<'_> {
             escape(label),
             about.join(" · ")
         )?;
-        writeln!(
-            out,
-            "<table class=\"steps\"><thead><tr><th class=\"line\">line</th><th class=\"source\">source</th><th \
-             class=\"jumps\"></th><th class=\"offset\">offset</th><th>step</th><th class=\"operands\">operands</th></tr></thead>"
-        )?;
-        self.groups(out, &shown.steps)?;
-        writeln!(out, "</table>")?;
-        if let Some(bad) = shown.bad {
-            let bad = format!("Offset {}: {bad}. Reading ends here.", bad.offset());
-            writeln!(out, "<p class=\"warning\">{}</p>", escape(&bad))?;
-        }
-        if shown.cut {
+        let mark = self.mark(shown);
+        if mark == Some(Mark::Record) {
             writeln!(
                 out,
-                "<p class=\"note\">More steps; <code>blotheath steps</code> shows them.</p>"
+                "<p class=\"warning\" id=\"bad\">{}</p>",
+                self.refused()
             )?;
         }
-        self.handlers(out)?;
+        if !shown.steps.is_empty() || shown.bad.is_some() {
+            self.table(out, shown, mark)?;
+        }
+        if shown.cut {
+            self.cut(out, shown)?;
+        }
+        self.handlers(out, mark)?;
         writeln!(out, "</section>")
     }
 
+    /// What is marked in this record, where the refusal lies in it.
+    fn mark(&self, shown: &Shown) -> Option<Mark> {
+        let (refusal, place) = self.fault?;
+        let mark = match place.offset {
+            Some(offset) if has_row(shown, offset) => Mark::Step(offset),
+            None if refusal.number() == 19 => self.bad_handler(shown).unwrap_or(Mark::Record),
+            _ => Mark::Record,
+        };
+        Some(mark)
+    }
+
+    /// The first handler that leads to no step, where its row is shown.
+    fn bad_handler(&self, shown: &Shown) -> Option<Mark> {
+        let number = self.record.handlers.number.min(self.handlers.get());
+        let leads = |index: &u32| {
+            let handler = self.reader.pattern.handler(self.number, *index);
+            handler.is_ok_and(|handler| has_row(shown, handler.target))
+        };
+        let found = (0..number).find(|index| !leads(index));
+        found.filter(|_| !shown.cut).map(Mark::Handler)
+    }
+
+    /// The refusal in words.
+    fn refused(&self) -> String {
+        match self.fault {
+            Some((refusal, place)) => format!(
+                "<strong>Refused by {}:</strong> {}.",
+                refusal.number(),
+                html::bytes(place.what.as_bytes())
+            ),
+            None => String::new(),
+        }
+    }
+
+    fn table(&self, out: &mut dyn Write, shown: &Shown, mark: Option<Mark>) -> io::Result<()> {
+        writeln!(
+            out,
+            "<table class=\"steps\" style=\"--jumps: {}px\"><thead><tr><th class=\"line\">line</th><th class=\"source\">source</th><th \
+             class=\"jumps\"></th><th class=\"offset\">offset</th><th class=\"name\">step</th><th \
+             class=\"operands\">operands</th></tr></thead>",
+            self.jumps_width()
+        )?;
+        self.groups(out, &shown.steps, mark)?;
+        if let Some(bad) = shown.bad {
+            self.unreadable(out, bad, mark)?;
+        }
+        writeln!(out, "</table>")
+    }
+
+    /// Tells which steps have no room on the page.
+    fn cut(&self, out: &mut dyn Write, shown: &Shown) -> io::Result<()> {
+        let first = shown.steps.last().map_or(0, |step| step.next);
+        let bytes = counted(u64::from(self.record.ilen.saturating_sub(first)), "byte");
+        writeln!(
+            out,
+            "<p class=\"note\">The steps from offset {first} on, {bytes}, are not on this page; <code>blotheath steps --all</code> \
+             shows them.</p>"
+        )
+    }
+
+    /// Writes what stands where reading ends.
+    fn unreadable(&self, out: &mut dyn Write, bad: BadStep, mark: Option<Mark>) -> io::Result<()> {
+        write!(out, "<tbody>{}", row(mark, bad.offset()))?;
+        let sources = self.reader.pattern.sources(self.number);
+        let origin = self.origin_of(&sources, bad.offset());
+        self.origin(out, origin, 1)?;
+        let what = match mark {
+            Some(Mark::Step(offset)) if offset == bad.offset() => self.refused(),
+            _ => escape(&format!("{bad}.")),
+        };
+        writeln!(
+            out,
+            "<td class=\"jumps\"></td><td class=\"offset\">{}</td><td class=\"name\">?</td><td class=\"operands\"><span \
+             class=\"refusal\">{what} Reading ends here.</span></td></tr></tbody>",
+            bad.offset()
+        )
+    }
+
+    fn origin_of(&self, sources: &Sources<'v>, offset: u32) -> Origin<'v> {
+        let pattern = self.reader.pattern;
+        let file = sources.at(pattern, offset);
+        Origin {
+            file: file.map(|file: &DebugFile| file.name.bytes),
+            line: pattern.line(self.number, offset).ok().flatten(),
+        }
+    }
+
     /// Writes the steps, those of one line together.
-    fn groups(&self, out: &mut dyn Write, steps: &[Step]) -> io::Result<()> {
+    fn groups(&self, out: &mut dyn Write, steps: &[Step], mark: Option<Mark>) -> io::Result<()> {
         let sources = self.reader.pattern.sources(self.number);
         let origins: Vec<Origin> = steps
             .iter()
-            .map(|step| {
-                let file = sources.at(self.reader.pattern, step.offset);
-                Origin {
-                    file: file.map(|file: &DebugFile| file.name.bytes),
-                    line: self
-                        .reader
-                        .pattern
-                        .line(self.number, step.offset)
-                        .ok()
-                        .flatten(),
-                }
-            })
+            .map(|step| self.origin_of(&sources, step.offset))
             .collect();
         let mut first = 0;
         let mut file = None;
@@ -140,7 +235,7 @@ impl View<'_> {
                     origin.file = None;
                 }
                 let origin = (row == first).then_some((origin, end - first));
-                self.step(out, row, step, origin)?;
+                self.step(out, row, step, origin, mark)?;
             }
             writeln!(out, "</tbody>")?;
             file = origins[first].file;
@@ -153,32 +248,37 @@ impl View<'_> {
     fn step(
         &self,
         out: &mut dyn Write,
-        row: usize,
+        number: usize,
         step: &Step,
         origin: Option<(Origin, usize)>,
+        mark: Option<Mark>,
     ) -> io::Result<()> {
-        write!(out, "<tr>")?;
+        write!(out, "{}", row(mark, step.offset))?;
         if let Some((origin, rows)) = origin {
             self.origin(out, origin, rows)?;
         }
-        let operands: Vec<String> = self
-            .reader
-            .meanings(self.number, self.record, step)
-            .iter()
-            .map(|meaning| self.operand(meaning))
-            .collect();
-        writeln!(
+        write!(
             out,
-            "<td class=\"jumps\">{}</td><td class=\"offset\">{}</td><td class=\"name\">{}</td><td class=\"operands\">{}</td></tr>",
-            self.jumps(row),
+            "<td class=\"jumps\">{}</td><td class=\"offset\">{}</td><td class=\"name\">{}</td><td class=\"operands\">",
+            self.jumps(number),
             step.offset,
             opcode_name(step.opcode).unwrap_or_default(),
-            operands.join("<span class=\"comma\">, </span>")
-        )
+        )?;
+        let meanings = self.reader.meanings(self.number, self.record, step);
+        for (place, meaning) in meanings.iter().enumerate() {
+            if place > 0 {
+                write!(out, "<span class=\"comma\">, </span>")?;
+            }
+            self.operand(out, meaning)?;
+        }
+        if mark == Some(Mark::Step(step.offset)) {
+            write!(out, "<span class=\"refusal\">{}</span>", self.refused())?;
+        }
+        writeln!(out, "</td></tr>")
     }
 
     /// The source text of a line.
-    fn source(&self, origin: Origin) -> Option<&str> {
+    fn source(&self, origin: Origin) -> Option<&'v str> {
         self.source?.line(origin.file?, origin.line?)
     }
 
@@ -187,52 +287,120 @@ impl View<'_> {
             Some(line) => line.to_string(),
             None => "–".to_owned(),
         };
-        let file = origin.file.unwrap_or_default();
         let shown = match self.source(origin) {
-            Some(text) => format!("<code>{}</code>", escape(&text::visible(text))),
-            None => format!(
-                "<span class=\"file\">{}</span>",
-                html::bytes(file, text::SHORT)
-            ),
+            Some(text) => fold::line(self.room, text),
+            None => self.file(origin),
         };
-        // A long line has room beside several rows.
-        let tall = if rows > 3 { " tall" } else { "" };
         write!(
             out,
-            "<td class=\"line\" rowspan=\"{rows}\">{line}</td><td class=\"source{tall}\" rowspan=\"{rows}\">{shown}</td>"
+            "<td class=\"line\" rowspan=\"{rows}\">{line}</td><td class=\"source\" rowspan=\"{rows}\">{shown}</td>"
         )
     }
 
-    /// An operand in HTML.
-    fn operand(&self, meaning: &Meaning) -> String {
-        let shown = escape(&meaning.shown());
-        match meaning {
-            Meaning::Register(number, name) => match name {
-                Some(name) => format!(
-                    "<span class=\"register\">R{number}</span> <span class=\"local\">{}</span>",
-                    html::bytes(name.bytes, text::SHORT)
-                ),
-                None => format!("<span class=\"register\">{shown}</span>"),
-            },
-            Meaning::Constant(index, constant) => {
-                let class = match constant {
-                    Some(Constant::Text(_)) => "constant text",
-                    _ => "constant",
-                };
-                format!(
-                    "<a class=\"{class}\" href=\"#k{}-{index}\">{shown}</a>",
-                    self.number
-                )
-            }
-            Meaning::Symbol(..) => format!("<span class=\"symbol\">{shown}</span>"),
-            Meaning::Child(_, Some(record)) => {
-                format!("<a class=\"child\" href=\"#r{record}\">{shown}</a>")
-            }
-            Meaning::Number(..) => format!("<span class=\"constant\">{shown}</span>"),
-            Meaning::Child(..) | Meaning::Jump(..) | Meaning::Plain(..) => {
-                format!("<span class=\"plain\">{shown}</span>")
+    /// The name of the file that a line comes from, where its text is not there.
+    fn file(&self, origin: Origin) -> String {
+        let name = origin.file.unwrap_or_default();
+        let whole = || html::bytes(name);
+        let shown = match name.len() > fold::LONG_TEXT {
+            true => self.long(name, &text::plain(name, fold::LONG_TEXT), whole),
+            false => whole(),
+        };
+        let is_short = self.source.is_some_and(|source| source.is_of(name));
+        let missing = if is_short { " has no such line" } else { "" };
+        format!("<span class=\"file\">{shown}{missing}</span>")
+    }
+
+    /// A long text, folded behind its start; without room for it the start, and where to see the rest.
+    fn long(&self, bytes: &[u8], start: &str, whole: impl FnOnce() -> String) -> String {
+        let start = escape(start);
+        match self.room.take(bytes.len()) {
+            true => fold::folded(&start, &whole()),
+            false => {
+                start
+                    + " <span class=\"left\">not whole here; <code>blotheath load --all</code> shows it</span>"
             }
         }
+    }
+
+    /// Writes an operand.
+    fn operand(&self, out: &mut dyn Write, meaning: &Meaning) -> io::Result<()> {
+        match meaning {
+            Meaning::Register(number, name) | Meaning::Outer(number, name) => {
+                write!(out, "<span class=\"register\">R{number}</span>")?;
+                match name {
+                    Some(name) => {
+                        let local = self.local(name.bytes);
+                        write!(out, " <span class=\"local\">{local}</span>")
+                    }
+                    None => Ok(()),
+                }
+            }
+            Meaning::Constant(index, Some(constant)) => {
+                let constant = self.constant(*index, constant);
+                write!(out, "<span class=\"constant\">{constant}</span>")
+            }
+            Meaning::Symbol(_, Some(symbol)) => {
+                let symbol = self.symbol(*symbol);
+                write!(out, "<span class=\"symbol\">{symbol}</span>")
+            }
+            Meaning::Child(_, Some(record)) => write!(
+                out,
+                "<a class=\"child\" href=\"#r{record}\">record {record}</a>"
+            ),
+            Meaning::Number(..) | Meaning::Constant(..) => {
+                write!(
+                    out,
+                    "<span class=\"constant\">{}</span>",
+                    Escaped(&meaning.shown())
+                )
+            }
+            Meaning::Child(..) | Meaning::Jump(..) | Meaning::Plain(..) | Meaning::Symbol(..) => {
+                write!(
+                    out,
+                    "<span class=\"plain\">{}</span>",
+                    Escaped(&meaning.shown())
+                )
+            }
+        }
+    }
+
+    /// A symbol, folded where it is long.
+    fn symbol(&self, symbol: Text) -> String {
+        let whole = || escape(&text::symbol_up_to(symbol, usize::MAX));
+        match symbol.bytes.len() > fold::LONG_TEXT {
+            true => self.long(symbol.bytes, &text::symbol(symbol), whole),
+            false => whole(),
+        }
+    }
+
+    /// The name of a local.
+    fn local(&self, name: &[u8]) -> String {
+        let whole = || html::bytes(name);
+        match name.len() > fold::LONG_TEXT {
+            true => self.long(name, &text::plain(name, fold::LONG_TEXT), whole),
+            false => whole(),
+        }
+    }
+
+    /// A constant of this record with a link to where it stands whole, if it is on the page.
+    fn constant(&self, index: u32, constant: &Constant) -> String {
+        let linked = |shown: &str| match self.extent.has(self.number, index) {
+            true => format!("<a href=\"#k{}-{index}\">{shown}</a>", self.number),
+            false => shown.to_owned(),
+        };
+        let start = text::constant(constant);
+        match constant {
+            Constant::Text(text) | Constant::Big(text) if constants::is_long(constant) => {
+                let whole = || linked(&escape(&text::constant_up_to(constant, usize::MAX)));
+                self.long(text.bytes, &start, whole)
+            }
+            _ => linked(&escape(&start)),
+        }
+    }
+
+    /// The width of the jumps' column.
+    fn jumps_width(&self) -> usize {
+        self.margin.lanes() * LANE + 10
     }
 
     /// The jumps beside a row.
@@ -241,7 +409,7 @@ impl View<'_> {
         if lanes == 0 {
             return String::new();
         }
-        let width = lanes * LANE + 10;
+        let width = self.jumps_width();
         let middle = ROW / 2;
         let mut lines = String::new();
         let mut is_target = false;
@@ -254,7 +422,7 @@ impl View<'_> {
             is_target |= row == arrow.to;
             lines += &if row == top {
                 format!(
-                    "M{} {middle}H{}Q{x} {middle} {x} {}V{ROW}",
+                    "M{} {middle}H{}Q{x} {middle} {x} {}V{BELOW}",
                     width - 4,
                     x + 4,
                     middle + 4
@@ -267,7 +435,7 @@ impl View<'_> {
                     middle - 4
                 )
             } else {
-                format!("M{x} 0V{ROW}")
+                format!("M{x} 0V{BELOW}")
             };
         }
         if lines.is_empty() {
@@ -276,27 +444,65 @@ impl View<'_> {
         if is_target {
             lines += &format!("M{} {}l5 4l-5 4", width - 7, middle - 4);
         }
-        format!("<svg width=\"{width}\" height=\"{ROW}\"><path d=\"{lines}\"/></svg>")
+        format!("<svg width=\"{width}\"><path d=\"{lines}\"/></svg>")
     }
 
-    fn handlers(&self, out: &mut dyn Write) -> io::Result<()> {
+    fn handlers(&self, out: &mut dyn Write, mark: Option<Mark>) -> io::Result<()> {
         let number = self.record.handlers.number;
-        for index in 0..number.min(MOST_HANDLERS) {
+        let shown = number.min(self.handlers.get());
+        self.handlers.set(self.handlers.get() - shown);
+        for index in 0..shown {
             let handler = self.reader.pattern.handler(self.number, index);
             let handler = handler.map_err(io::Error::other)?;
+            self.handler(out, index, handler, mark == Some(Mark::Handler(index)))?;
+        }
+        if number > shown {
+            let more = counted(u64::from(number - shown), "more handler");
             writeln!(
                 out,
-                "<p class=\"note\">Handler {index}, {}: for offsets {} to {}, goes to {}.</p>",
-                handler_kind(handler.kind),
-                handler.begin,
-                handler.end,
-                handler.target
+                "<p class=\"note\">{more}; <code>blotheath load --all</code> shows them.</p>"
             )?;
         }
-        if number > MOST_HANDLERS {
-            let more = counted(u64::from(number - MOST_HANDLERS), "more handler");
-            writeln!(out, "<p class=\"note\">{more}.</p>")?;
-        }
         Ok(())
+    }
+
+    fn handler(
+        &self,
+        out: &mut dyn Write,
+        index: u32,
+        handler: Handler,
+        is_bad: bool,
+    ) -> io::Result<()> {
+        let told = format!(
+            "Handler {index}, {}: for offsets {} to {}, goes to {}.",
+            handler_kind(handler.kind),
+            handler.begin,
+            handler.end,
+            handler.target
+        );
+        match is_bad {
+            true => writeln!(
+                out,
+                "<p class=\"warning\" id=\"bad\">{told} {}</p>",
+                self.refused()
+            ),
+            false => writeln!(out, "<p class=\"note\">{told}</p>"),
+        }
+    }
+}
+
+/// Whether an offset has a row among those that are shown.
+fn has_row(shown: &Shown, offset: u32) -> bool {
+    let step = shown
+        .steps
+        .binary_search_by_key(&offset, |step| step.offset);
+    step.is_ok() || shown.bad.is_some_and(|bad| bad.offset() == offset)
+}
+
+/// The start of a row; that of the refused step is marked.
+fn row(mark: Option<Mark>, offset: u32) -> &'static str {
+    match mark == Some(Mark::Step(offset)) {
+        true => "<tr class=\"bad\" id=\"bad\">",
+        false => "<tr>",
     }
 }

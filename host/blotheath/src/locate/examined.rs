@@ -1,35 +1,20 @@
-//! Where a refusal of examination lies: a search over the loaded rows, in examination's order.
-//!
-//! The verdict is never taken from here. The search answers a place only where it meets the very number of the verdict.
+//! Where a refusal by 15 to 20 lies: a search over the loaded rows, in examination's order.
 
+use super::Place;
 use crate::opcode::{Flow, Role, flow, roles};
 use crate::pattern::{Pattern, Record};
-use crate::refusal::Refusal;
 use crate::step::Step;
 
-/// Where a refusal lies.
-#[derive(Debug, Clone, PartialEq, Eq)]
-pub struct Place {
-    pub record: Option<u32>,
-    pub offset: Option<u32>,
-    pub line: Option<u32>,
-    /// What stands there.
-    pub what: String,
-}
-
-/// The place of a refusal by 15 to 20 in a file that loads.
-pub fn locate(pattern: &Pattern, refusal: Refusal) -> Option<Place> {
-    if !refusal.is_of_examination() {
-        return None;
-    }
-    let (number, place) = search(pattern)?;
-    (number == refusal.number()).then_some(place)
-}
+/// The bytes of a handler, and of those before its target.
+const HANDLER_BYTES: u32 = 13;
+const BEFORE_TARGET: u32 = 9;
 
 /// The first refusal that examination meets, and where.
-fn search(pattern: &Pattern) -> Option<(u32, Place)> {
+pub fn search(pattern: &Pattern) -> Option<(u32, Place)> {
     if let Some(what) = broken_tree(pattern) {
         let place = Place {
+            section: (pattern.counts().records > 0).then_some("IREP"),
+            byte: None,
             record: None,
             offset: None,
             line: None,
@@ -43,6 +28,8 @@ fn search(pattern: &Pattern) -> Option<(u32, Place)> {
         if let Some(found) = search_record(pattern, number, &record, &mut begins) {
             let offset = found.offset;
             let place = Place {
+                section: Some(found.section),
+                byte: found.byte,
                 record: Some(number),
                 offset,
                 line: offset.and_then(|offset| pattern.line(number, offset).ok()?),
@@ -81,14 +68,19 @@ fn broken_tree(pattern: &Pattern) -> Option<String> {
 /// What a record's search finds.
 struct Found {
     refusal: u32,
+    section: &'static str,
+    byte: Option<u32>,
     offset: Option<u32>,
     what: String,
 }
 
 impl Found {
-    fn at(refusal: u32, offset: u32, what: String) -> Option<Found> {
+    /// A refusal at an offset of a record's instructions.
+    fn at(refusal: u32, record: &Record, offset: u32, what: String) -> Option<Found> {
         Some(Found {
             refusal,
+            section: "IREP",
+            byte: Some(record.place + offset),
             offset: Some(offset),
             what,
         })
@@ -125,13 +117,13 @@ fn search_record(
 ) -> Option<Found> {
     let code = pattern.instructions(number).ok()?.bytes;
     if code.is_empty() {
-        return Found::at(16, 0, "the record has no instructions".to_owned());
+        return Found::at(16, record, 0, "the record has no instructions".to_owned());
     }
     begins.clear(code.len());
     for step in pattern.steps(number).ok()? {
         match step {
             Ok(step) => begins.mark(step.offset),
-            Err(bad) => return Found::at(16, bad.offset(), bad.to_string()),
+            Err(bad) => return Found::at(16, record, bad.offset(), bad.to_string()),
         }
     }
     let steps = pattern.steps(number).ok()?.flatten();
@@ -154,16 +146,21 @@ fn search_step(record: &Record, step: &Step, begins: &Begins) -> Option<Found> {
         };
         if *operand >= bound {
             let what = format!("{thing} {operand} is named, and the record has {bound}");
-            return Found::at(17, step.offset, what);
+            return Found::at(17, record, step.offset, what);
         }
     }
     if let Some(target) = step.target().filter(|target| !begins.at(*target)) {
-        return Found::at(18, step.offset, format!("the jump goes to {target}"));
+        return Found::at(
+            18,
+            record,
+            step.offset,
+            format!("the jump goes to {target}"),
+        );
     }
     let goes_on = matches!(flow(step.opcode), Flow::Next | Flow::MayJump);
     if goes_on && !begins.at(step.next.into()) {
         let what = "the last instruction goes on behind the record's end".to_owned();
-        return Found::at(18, step.offset, what);
+        return Found::at(18, record, step.offset, what);
     }
     None
 }
@@ -179,6 +176,8 @@ fn search_handlers(
         if !begins.at(target.into()) {
             return Some(Found {
                 refusal: 19,
+                section: "IREP",
+                byte: Some(record.place + record.ilen + index * HANDLER_BYTES + BEFORE_TARGET),
                 offset: None,
                 what: format!("handler {index} goes to {target}"),
             });
@@ -194,6 +193,8 @@ fn search_lines(pattern: &Pattern, record: &Record) -> Option<Found> {
         if position < before {
             return Some(Found {
                 refusal: 20,
+                section: "DBG",
+                byte: None,
                 offset: None,
                 what: format!("position {position} comes behind {before} in the line map"),
             });

@@ -1,0 +1,32 @@
+//! Where a refusal lies.
+//!
+//! The verdict is never taken from here. A search answers a place only where it meets the very number of the verdict.
+
+mod examined;
+mod forward;
+
+use crate::pattern::Pattern;
+use crate::refusal::Refusal;
+
+/// Where a refusal lies.
+#[derive(Debug, Clone, PartialEq, Eq)]
+pub struct Place {
+    /// The mark of the section, or `header`.
+    pub section: Option<&'static str>,
+    /// The place in the file of the byte that is refused, counted from 0; the file's length where a byte is missing.
+    pub byte: Option<u32>,
+    pub record: Option<u32>,
+    pub offset: Option<u32>,
+    pub line: Option<u32>,
+    /// What stands there.
+    pub what: String,
+}
+
+/// The place of a file's refusal: by 15 to 20 over the pattern that it loads to, by 1 to 14 over its bytes alone.
+pub fn locate(file: &[u8], pattern: Option<&Pattern>, refusal: Refusal) -> Option<Place> {
+    let (number, place) = match pattern {
+        Some(pattern) => examined::search(pattern),
+        None => forward::search(file),
+    }?;
+    (number == refusal.number()).then_some(place)
+}

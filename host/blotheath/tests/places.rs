@@ -1,0 +1,445 @@
+//! Places of refusals by 1 to 14: the section, the byte and a few words.
+
+mod common;
+
+use blotheath::{FILE_LIMIT, Place, Refusal, examine, load, locate};
+use common::json::{Value, parse};
+use common::{Folder, Numbers, build, damaged, files, run, run_with, sample_bytes, steers};
+use std::fs;
+
+/// The refusal of a file and its place.
+fn refused(file: &[u8]) -> (u32, Place) {
+    let refusal = examine(file).unwrap_err();
+    let pattern = load(file).ok();
+    let place = locate(file, pattern.as_ref(), refusal);
+    let place = place.unwrap_or_else(|| panic!("{refusal} has no place in {file:?}"));
+    (refusal.number(), place)
+}
+
+/// What a place of a file that does not load is expected to say.
+type Expected = (u32, Option<&'static str>, u32, Option<u32>, &'static str);
+
+fn check(file: &[u8], expected: Expected) {
+    let (number, place) = refused(file);
+    let found = (
+        number,
+        place.section,
+        place.byte.unwrap(),
+        place.record,
+        place.what.as_str(),
+    );
+    assert_eq!(found, expected);
+    assert_eq!((place.offset, place.line), (None, None));
+}
+
+/// A handler, of which nothing is read but its bytes.
+const HANDLER: [u8; 13] = [0; 13];
+
+/// A record of one child or none, with a handler and these constants.
+fn record(nlocals: u16, rlen: u16, constants: &[&[u8]]) -> Vec<u8> {
+    let mut record = build::record(rlen, &[118], constants, &[b"puts", b"x"]);
+    record[4..6].copy_from_slice(&nlocals.to_be_bytes());
+    record[10..12].copy_from_slice(&1u16.to_be_bytes());
+    record.splice(17..17, HANDLER);
+    let size = record.len() as u32;
+    record[..4].copy_from_slice(&size.to_be_bytes());
+    record
+}
+
+/// Constants of every kind.
+const CONSTANTS: [&[u8]; 6] = [
+    &[0, 0, 2, b'a', b'b', 0],
+    &[1, 0, 0, 0, 7],
+    &[2, 0, 1, b'c', 0],
+    &[3, 1, 2, 3, 4, 5, 6, 7, 8],
+    &[5, 0, 0, 0, 0, 0, 0, 0xf0, 0x3f],
+    &[7, 2, 10, b'1', b'2'],
+];
+
+/// The records, names and lines of a file that has something of everything.
+fn sections() -> [Vec<u8>; 3] {
+    let records = [record(3, 1, &CONSTANTS), record(2, 0, &[CONSTANTS[1]])].concat();
+    let names = [
+        &[0, 0, 0, 2, 0, 1, b'a', 0, 2, b'b', b'c'][..],
+        &[0, 1, 255, 255, 0, 0],
+    ];
+    let lines = [
+        debug_record(&[
+            debug_file(0, 0, 0, 2, &[0, 7, 0, 8]),
+            debug_file(2, 1, 2, 5, &[1, 2, 129, 1, 3]),
+        ]),
+        debug_record(&[debug_file(0, 1, 1, 1, &[0, 0, 0, 0, 0, 9])]),
+    ];
+    let debug = [&[0, 2, 0, 1, b'p', 0, 1, b'q'], &lines.concat()[..]].concat();
+    [
+        build::irep(&records),
+        build::section(b"LVAR", &names.concat()),
+        build::section(b"DBG\0", &debug),
+    ]
+}
+
+fn debug_record(files: &[Vec<u8>]) -> Vec<u8> {
+    let content = files.concat();
+    let size = 6 + content.len() as u32;
+    let count = files.len() as u16;
+    [&size.to_be_bytes()[..], &count.to_be_bytes(), &content].concat()
+}
+
+fn debug_file(start: u32, name: u16, kind: u8, count: u32, lines: &[u8]) -> Vec<u8> {
+    let mut file = start.to_be_bytes().to_vec();
+    file.extend(name.to_be_bytes());
+    file.extend(count.to_be_bytes());
+    file.push(kind);
+    file.extend(lines);
+    file
+}
+
+/// A file that has something of everything and loads.
+fn rich() -> Vec<u8> {
+    let [records, names, lines] = sections();
+    let end = build::section(b"END\0", &[]);
+    build::file(&[records, names, lines, end])
+}
+
+#[test]
+fn the_rich_file_loads() {
+    assert!(load(&rich()).is_ok());
+}
+
+#[test]
+fn headers() {
+    let long = vec![0; FILE_LIMIT + 1];
+    check(
+        &long,
+        (
+            1,
+            None,
+            65_536,
+            None,
+            "the file goes on behind its 65,536th byte",
+        ),
+    );
+    let ends = "the file ends here, after 19 bytes";
+    check(&rich()[..19], (2, Some("header"), 19, None, ends));
+    check(
+        &rich()[..31],
+        (4, None, 31, None, "the file ends here, after 31 bytes"),
+    );
+}
+
+#[test]
+fn the_version_that_was_found() {
+    let version = |start: &[u8; 8], what: &'static str| {
+        let mut file = rich();
+        file[..8].copy_from_slice(start);
+        check(&file, (3, Some("header"), 4, None, what));
+    };
+    version(b"RITE0300", "the version is 0300, mruby 3.x");
+    version(b"RITE0006", "the version is 0006");
+    version(b"RITE03\n\0", r#"the version is "03\n\x00", mruby 3.x"#);
+    version(
+        b"\x89PNG\r\n\x1a\n",
+        r#"the version is "\r\n\x1a\n", and the file begins with "\x89PNG" instead of RITE"#,
+    );
+}
+
+#[test]
+fn sections_and_their_sizes() {
+    let [records, names, lines] = sections();
+    let end = 20 + records.len() as u32;
+    let unknown = build::section(b"A\"\0\x1b", &[0; 20]);
+    check(
+        &build::file(&[records.clone(), unknown]),
+        (5, None, end, None, r#"the mark is "A\"\x00\x1b""#),
+    );
+    check(
+        &build::file(&[records.clone(), records.clone()]),
+        (6, Some("IREP"), end, None, "a second section IREP"),
+    );
+    check(
+        &build::file(&[lines.clone(), records.clone()]),
+        (6, Some("DBG"), 20, None, "DBG comes before IREP"),
+    );
+    let mut long = build::file(&[records.clone(), lines]);
+    let size = end as usize + 4;
+    long[size..size + 4].copy_from_slice(&900u32.to_be_bytes());
+    let what = "the section's size is 900, and 76 bytes are left from its mark on";
+    check(&long, (7, Some("DBG"), end + 4, None, what));
+    let cut = [&build::file(std::slice::from_ref(&records))[..], b"END\0\0"].concat();
+    let what = "the section's size needs 4 bytes here, and 1 are left";
+    check(&cut, (7, Some("END"), end + 4, None, what));
+    let mut none = build::file(&[records, names]);
+    none[size..size + 4].fill(0);
+    let what = "the section's size is 0";
+    check(&none, (8, Some("LVAR"), end + 4, None, what));
+}
+
+#[test]
+fn records_and_what_they_hold() {
+    let mut file = rich();
+    let second = 32 + record(3, 1, &CONSTANTS).len();
+    let at = second as u32;
+    file[second..second + 4].fill(0);
+    let what = "the record's size is 0";
+    check(&file, (8, Some("IREP"), at, Some(1), what));
+    let mut file = rich();
+    file[second + 12..second + 16].copy_from_slice(&5_000u32.to_be_bytes());
+    let left = file.len() - second - 16;
+    let what = format!("the record's code needs 5000 bytes here, and {left} are left");
+    check(&file, (7, Some("IREP"), at + 16, Some(1), what.leak()));
+    // Behind the header, the code, the handler and the count come the constants.
+    let constants = 32 + 16 + 1 + 13 + 2;
+    let at = constants as u32;
+    let mut file = rich();
+    file[constants] = 9;
+    let what = "constant 0 is of kind 9";
+    check(&file, (10, Some("IREP"), at, Some(0), what));
+    let mut file = rich();
+    file[constants + 4] = 0;
+    let what = "constant 0 has a zero byte inside";
+    check(&file, (9, Some("IREP"), at + 4, Some(0), what));
+    let mut file = rich();
+    file[constants + 5] = 1;
+    let what = "constant 0 does not end with a zero byte";
+    check(&file, (9, Some("IREP"), at + 5, Some(0), what));
+}
+
+#[test]
+fn names() {
+    let [records, _, _] = sections();
+    let names = 20 + records.len();
+    let at = names as u32;
+    let mut file = rich();
+    file[36..38].fill(0);
+    let what = "the record's number of locals is 0";
+    check(&file, (11, Some("IREP"), 36, Some(0), what));
+    let mut file = rich();
+    let index = names + 8 + 11;
+    file[index + 5] = 2;
+    let what = "local 1 has name 2, and there are 2";
+    check(&file, (11, Some("LVAR"), at + 23, Some(1), what));
+    let mut file = rich();
+    file[names + 14] = 0;
+    let what = "name 0 has a zero byte inside";
+    check(&file, (9, Some("LVAR"), at + 14, None, what));
+}
+
+/// A file of these debug files for its one record, and where they begin.
+fn lines(files: &[Vec<u8>]) -> (Vec<u8>, u32) {
+    let records = build::irep(&build::record(0, &[118], &[], &[]));
+    let begin = 20 + records.len() as u32 + 8 + 5 + 6;
+    let debug = [&[0, 1, 0, 1, b'p'], &debug_record(files)[..]].concat();
+    (
+        build::file(&[records, build::section(b"DBG\0", &debug)]),
+        begin,
+    )
+}
+
+#[test]
+fn debug_records() {
+    let same = || debug_file(3, 0, 1, 0, &[]);
+    for (files, number, byte, what) in [
+        (
+            vec![same(), same()],
+            12,
+            11,
+            "debug file 1 starts at 3, behind one at 3",
+        ),
+        (
+            vec![debug_file(0, 4, 0, 0, &[])],
+            12,
+            4,
+            "debug file 0 has name 4, and there are 1",
+        ),
+        (
+            vec![debug_file(0, 0, 3, 0, &[])],
+            12,
+            10,
+            "debug file 0 is of kind 3",
+        ),
+        (
+            vec![debug_file(0, 0, 2, 6, &[1, 255, 255, 255, 255, 143])],
+            12,
+            16,
+            "the line of a line entry goes on behind its fifth byte",
+        ),
+        (
+            vec![debug_file(u32::MAX, 0, 0, 2, &[0, 1, 0, 2])],
+            13,
+            13,
+            "line entry 1 of a debug file that starts at 4294967295",
+        ),
+        (
+            vec![debug_file(0, 0, 1, 2, &[0, 0, 0, 0, 0, 1])],
+            7,
+            17,
+            "the position of line entry 1 needs 4 bytes here, and 0 are left",
+        ),
+    ] {
+        let (file, begin) = lines(&files);
+        let section = Some("DBG");
+        check(&file, (number, section, begin + byte, Some(0), what));
+    }
+    let (mut file, begin) = lines(&[same()]);
+    file[begin as usize - 3] += 1;
+    let what = "the debug record's size is 18, and it has 17 bytes";
+    check(&file, (12, Some("DBG"), begin - 6, Some(0), what));
+}
+
+#[test]
+fn rows_that_are_missing() {
+    let records = build::record(0, &[118], &[], &[]).repeat(1_025);
+    let size = records.len() as u32 / 1_025;
+    let what = "a record begins here, and 1024 came before it";
+    check(
+        &build::file(&[build::irep(&records)]),
+        (14, Some("IREP"), 32 + 1_024 * size, Some(1_024), what),
+    );
+    let (number, place) = refused(&build::shared_constants(15_000));
+    assert_eq!((number, place.section), (14, Some("IREP")));
+    assert!(place.what.starts_with("a row is needed here"), "{place:?}");
+}
+
+/// A byte of the file is also told of refusals by 16 to 19.
+#[test]
+fn bytes_of_examined_records() {
+    let place = |code: &[u8]| {
+        let (_, place) = refused(&build::one(code, &[], &[b"s"]));
+        (place.section, place.byte, place.offset)
+    };
+    assert_eq!(place(&[0, 119]), (Some("IREP"), Some(49), Some(1)));
+    assert_eq!(place(&[0, 17, 8, 118]), (Some("IREP"), Some(49), Some(1)));
+    let mut file = build::file(&[build::irep(&record(1, 0, &[]))]);
+    let target = 32 + 16 + 1 + 9;
+    file[target + 3] = 1;
+    let (number, place) = refused(&file);
+    assert_eq!((number, place.section), (19, Some("IREP")));
+    assert_eq!(place.byte, Some(target as u32));
+}
+
+/// A damaged file with some fields set to numbers at which answers change.
+fn changed(file: &[u8], numbers: &mut Numbers) -> Vec<u8> {
+    let mut bytes = damaged(file, numbers);
+    for _ in 0..numbers.below(3) {
+        let width = [1, 2, 4][numbers.below(3)];
+        if bytes.len() > 20 + width {
+            let place = 20 + numbers.below(bytes.len() - 20 - width);
+            let value = [0, 1, 2, 9, 255, 256, 1_025, u32::MAX][numbers.below(8)];
+            bytes[place..place + width].copy_from_slice(&value.to_be_bytes()[4 - width..]);
+        }
+    }
+    bytes
+}
+
+/// Files whose sections come in any order and number.
+fn shuffled(numbers: &mut Numbers) -> Vec<u8> {
+    let [records, names, lines] = sections();
+    let end = build::section(b"END\0", &[]);
+    let all = [records, names, lines, end];
+    let chosen: Vec<Vec<u8>> = (0..numbers.below(6))
+        .map(|_| all[numbers.below(4)].clone())
+        .collect();
+    build::file(&chosen)
+}
+
+/// Every refusal by 1 to 14 has a place in the file or at its end, and none by another number has one there.
+#[test]
+fn every_file_that_does_not_load_has_a_place() {
+    let mut numbers = Numbers(13);
+    let mut stock: Vec<Vec<u8>> = files().iter().map(|path| fs::read(path).unwrap()).collect();
+    stock.push(rich());
+    stock.push(lines(&[debug_file(u32::MAX, 0, 0, 2, &[0, 1, 0, 2])]).0);
+    stock.push(build::file(&[build::irep(
+        &build::record(0, &[118], &[], &[]).repeat(1_025),
+    )]));
+    stock.push(vec![0; FILE_LIMIT + 1]);
+    let mut found = [0; 25];
+    for round in 0..24_000 {
+        let file = match round % 4 {
+            0 => changed(&stock[numbers.below(stock.len())], &mut numbers),
+            1 => changed(&shuffled(&mut numbers), &mut numbers),
+            2 => shuffled(&mut numbers),
+            _ => changed(&rich(), &mut numbers),
+        };
+        let model = model::read(&file, [1 << 20; 9]).end;
+        let Err(refusal) = load(&file) else {
+            assert_eq!(model, Ok(()));
+            continue;
+        };
+        assert_eq!(model, Err(refusal.number()));
+        found[refusal.number() as usize] += 1;
+        let place = locate(&file, None, refusal);
+        let place = place.unwrap_or_else(|| panic!("{refusal} has no place in {file:?}"));
+        assert!(place.byte.unwrap() as usize <= file.len(), "{place:?}");
+        assert!(!steers(&place.what), "{place:?}");
+        let others = (1..=24).map(Refusal).filter(|other| *other != refusal);
+        assert!(others.into_iter().all(|o| locate(&file, None, o).is_none()));
+    }
+    for (number, found) in found.iter().enumerate().take(15).skip(1) {
+        assert!(*found > 0, "no file meets {number}");
+    }
+}
+
+/// One refused file is shown with the bytes around the place, several are shown in a line each.
+#[test]
+fn examine_shows_the_bytes() {
+    let folder = Folder::new("bytes");
+    let mut file = rich();
+    file[64] = 9;
+    let path = folder.file("bad.mrb", &file);
+    let ran = run(&["examine", &path]);
+    assert_eq!(ran.status, 1);
+    let lines: Vec<&str> = ran.out.lines().collect();
+    assert!(
+        lines[0].ends_with(
+            "refused by 10: a constant is of an unknown kind (IREP, record 0, byte 64: constant 0 is of kind 9)"
+        ),
+        "{}",
+        lines[0]
+    );
+    assert_eq!(lines.len(), 4);
+    assert_eq!(
+        lines[2],
+        "       64 [09]00 02 61 62 00 01 00 00 00 07 02 00 01 63 00"
+    );
+    assert!(lines[1].starts_with("       48  76 00 "), "{}", lines[1]);
+    assert!(lines[3].starts_with("       80  03 01 "), "{}", lines[3]);
+    let other = folder.file("other.mrb", &file[..19]);
+    let ran = run(&["examine", &path, &other]);
+    assert_eq!(ran.out.lines().count(), 3, "{}", ran.out);
+    let ran = run(&["examine", &other]);
+    assert!(
+        ran.out.ends_with("\n       16  00 00 00[  ]\n"),
+        "{}",
+        ran.out
+    );
+}
+
+/// Every command that reads a file tells the place, in words and in JSON.
+#[test]
+fn commands_tell_the_place() {
+    let mut file = sample_bytes();
+    file[4..8].copy_from_slice(b"0300");
+    for words in [
+        &["examine", "-"][..],
+        &["load", "-"],
+        &["steps", "-"],
+        &["follow", "-", "go"],
+    ] {
+        let out = run_with(words, &file).out;
+        let told = "(header, byte 4: the version is 0300, mruby 3.x)";
+        assert!(out.contains(told), "{words:?}: {out}");
+    }
+    let value = parse(&run_with(&["examine", "--json", "-"], &file).out);
+    check_version(value.get("files").items()[0].get("place"));
+    for command in ["load", "steps"] {
+        let value = parse(&run_with(&[command, "--json", "-"], &file).out);
+        check_version(value.get("place"));
+    }
+}
+
+fn check_version(place: &Value) {
+    assert_eq!(place.get("section").text(), "header");
+    assert_eq!(place.get("byte").number(), 4.0);
+    assert_eq!(place.get("what").text(), "the version is 0300, mruby 3.x");
+}
