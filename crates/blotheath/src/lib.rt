@@ -156,7 +156,11 @@ pub extern "C" fn blotheath_load(
     files: &mut [u32],
     lines: &mut [u32],
 ) -> BlotheathLoaded
-    ensures { λ r. ⌜ exported r (words (now (records .exit)) (now (handlers .exit)) (now (pool .exit)) (now (symbols .exit)) (now (strings .exit)) (now (names .exit)) (now (filenames .exit)) (now (files .exit)) (now (lines .exit))) ≡ loadedIs (load (now (file .entry)) (sizes (words (now (records .entry)) (now (handlers .entry)) (now (pool .entry)) (now (symbols .entry)) (now (strings .entry)) (now (names .entry)) (now (filenames .entry)) (now (files .entry)) (now (lines .entry))))) ⌝ }
+    ensures { λ r. ⌜ exported r (words (now (records .exit)) (now (handlers .exit)) (now (pool .exit)) (now (symbols .exit)) (now (strings .exit)) (now (names .exit))
+        (now (filenames .exit)) (now (files .exit)) (now (lines .exit)))
+        ≡ loadedIs (load (now (file .entry)) (sizes
+        (words (now (records .entry)) (now (handlers .entry)) (now (pool .entry)) (now (symbols .entry)) (now (strings .entry)) (now (names .entry))
+        (now (filenames .entry)) (now (files .entry)) (now (lines .entry))))) ⌝ }
 {
     boundary::loaded(rite::load(
         file,
@@ -187,7 +191,12 @@ pub extern "C" fn blotheath_load_records(
     lines: &mut [u32],
     rows: &mut [Record],
 ) -> BlotheathLoaded
-    ensures { λ r. ⌜ (exported r (words (now (records .exit)) (now (handlers .exit)) (now (pool .exit)) (now (symbols .exit)) (now (strings .exit)) (now (names .exit)) (now (filenames .exit)) (now (files .exit)) (now (lines .exit))) ≡ loadedIs (load (now (file .entry)) (sizes (words (now (records .entry)) (now (handlers .entry)) (now (pool .entry)) (now (symbols .entry)) (now (strings .entry)) (now (names .entry)) (now (filenames .entry)) (now (files .entry)) (now (lines .entry)))))) × (now (rows .exit) ≡ rowsOf (now (records .exit)) (length (now (rows .entry)))) ⌝ }
+    ensures { λ r. ⌜ (exported r (words (now (records .exit)) (now (handlers .exit)) (now (pool .exit)) (now (symbols .exit)) (now (strings .exit)) (now (names .exit))
+        (now (filenames .exit)) (now (files .exit)) (now (lines .exit)))
+        ≡ loadedIs (load (now (file .entry)) (sizes
+        (words (now (records .entry)) (now (handlers .entry)) (now (pool .entry)) (now (symbols .entry)) (now (strings .entry)) (now (names .entry))
+        (now (filenames .entry)) (now (files .entry)) (now (lines .entry))))))
+        × (now (rows .exit) ≡ rowsOf (now (records .exit)) (length (now (rows .entry)))) ⌝ }
 {
     let loaded = blotheath_load(
         file,
@@ -219,7 +228,11 @@ pub extern "C" fn blotheath_examine(
     files: &mut [u32],
     lines: &mut [u32],
 ) -> BlotheathLoaded
-    ensures { λ r. ⌜ exported r (words (now (records .exit)) (now (handlers .exit)) (now (pool .exit)) (now (symbols .exit)) (now (strings .exit)) (now (names .exit)) (now (filenames .exit)) (now (files .exit)) (now (lines .exit))) ≡ loadedIs (examine (now (file .entry)) (sizes (words (now (records .entry)) (now (handlers .entry)) (now (pool .entry)) (now (symbols .entry)) (now (strings .entry)) (now (names .entry)) (now (filenames .entry)) (now (files .entry)) (now (lines .entry))))) ⌝ }
+    ensures { λ r. ⌜ exported r (words (now (records .exit)) (now (handlers .exit)) (now (pool .exit)) (now (symbols .exit)) (now (strings .exit)) (now (names .exit))
+        (now (filenames .exit)) (now (files .exit)) (now (lines .exit)))
+        ≡ loadedIs (examine (now (file .entry)) (sizes
+        (words (now (records .entry)) (now (handlers .entry)) (now (pool .entry)) (now (symbols .entry)) (now (strings .entry)) (now (names .entry))
+        (now (filenames .entry)) (now (files .entry)) (now (lines .entry))))) ⌝ }
 {
     boundary::loaded(examine::examine(
         file,
@@ -251,7 +264,11 @@ pub extern "C" fn blotheath_follow(
     frames: &mut [u32],
     choices: &[u8],
 ) -> BlotheathFollowed
-    ensures { λ r. ⌜ ran r (words (now (records .exit)) (now (handlers .exit)) (now (pool .exit)) (now (symbols .exit)) (now (strings .exit)) (now (names .exit)) (now (filenames .exit)) (now (files .exit)) (now (lines .exit))) (now (frames .exit)) ≡ ranIs (follow (now (file .entry)) (sizes (words (now (records .entry)) (now (handlers .entry)) (now (pool .entry)) (now (symbols .entry)) (now (strings .entry)) (now (names .entry)) (now (filenames .entry)) (now (files .entry)) (now (lines .entry)))) (length (now (frames .entry))) (now (choices .entry))) ⌝ }
+    ensures { λ r. ⌜ ran r (words (now (records .exit)) (now (handlers .exit)) (now (pool .exit)) (now (symbols .exit)) (now (strings .exit)) (now (names .exit))
+        (now (filenames .exit)) (now (files .exit)) (now (lines .exit))) (now (frames .exit))
+        ≡ ranIs (follow (now (file .entry)) (sizes
+        (words (now (records .entry)) (now (handlers .entry)) (now (pool .entry)) (now (symbols .entry)) (now (strings .entry)) (now (names .entry))
+        (now (filenames .entry)) (now (files .entry)) (now (lines .entry)))) (length (now (frames .entry))) (now (choices .entry))) ⌝ }
 {
     boundary::followed(follow::follow(
         file,

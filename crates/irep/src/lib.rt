@@ -131,7 +131,8 @@ fn read_body(
     u: Used,
 ) -> Content
     requires { ⌜ base + length (now f) ≤ 65536 ⌝ }
-    ensures { λ r. ⌜ lists r (now (handlers .exit)) (now (pool .exit)) (now (symbols .exit)) ≡ bodyOf (now (f .entry)) base clen at (now (handlers .entry)) (now (pool .entry)) (now (symbols .entry)) u ⌝ }
+    ensures { λ r. ⌜ lists r (now (handlers .exit)) (now (pool .exit)) (now (symbols .exit))
+        ≡ bodyOf (now (f .entry)) base clen at (now (handlers .entry)) (now (pool .entry)) (now (symbols .entry)) u ⌝ }
 {
     match read_rows(f, base, Row::Handler, clen, at, handlers, u.handlers) {
         Rows::Next { at: a, used: h } => match read_counted(f, base, Row::Pool, a, pool, u.pool) {
@@ -194,7 +195,8 @@ fn read_record(
     u: Used,
 ) -> Reached
     requires { ⌜ base + length (now f) ≤ 65536 ⌝ }
-    ensures { λ r. ⌜ run r (lent (now (records .exit)) (now (handlers .exit)) (now (pool .exit)) (now (symbols .exit))) ≡ recordOf (now (f .entry)) base limit at (lent (now (records .entry)) (now (handlers .entry)) (now (pool .entry)) (now (symbols .entry))) u ⌝ }
+    ensures { λ r. ⌜ run r (lent (now (records .exit)) (now (handlers .exit)) (now (pool .exit)) (now (symbols .exit)))
+        ≡ recordOf (now (f .entry)) base limit at (lent (now (records .entry)) (now (handlers .entry)) (now (pool .entry)) (now (symbols .entry))) u ⌝ }
 {
     if rest(f, at) < 16 {
         return Reached::Refused(7);
@@ -238,7 +240,8 @@ fn read_records(
     u: Used,
 ) -> Reached
     requires { ⌜ (base + length (now f) ≤ 65536) × (size ≤ length (now f)) ⌝ }
-    ensures { λ r. ⌜ run r (lent (now (records .exit)) (now (handlers .exit)) (now (pool .exit)) (now (symbols .exit))) ≡ recordsOf (now (f .entry)) base size limit (length (now (f .entry))) from (lent (now (records .entry)) (now (handlers .entry)) (now (pool .entry)) (now (symbols .entry))) u ⌝ }
+    ensures { λ r. ⌜ run r (lent (now (records .exit)) (now (handlers .exit)) (now (pool .exit)) (now (symbols .exit)))
+        ≡ recordsOf (now (f .entry)) base size limit (length (now (f .entry))) from (lent (now (records .entry)) (now (handlers .entry)) (now (pool .entry)) (now (symbols .entry))) u ⌝ }
 {
     let mut at = from;
     let mut used = u;
@@ -267,7 +270,8 @@ pub fn section_irep_1(
     symbols: &mut [u32],
 ) -> Section
     requires { ⌜ base + length (now f) ≤ 65536 ⌝ }
-    ensures { λ r. ⌜ sectionRun r (lent (now (records .exit)) (now (handlers .exit)) (now (pool .exit)) (now (symbols .exit))) ≡ irepOf (now (f .entry)) base limit (lent (now (records .entry)) (now (handlers .entry)) (now (pool .entry)) (now (symbols .entry))) ⌝ }
+    ensures { λ r. ⌜ sectionRun r (lent (now (records .exit)) (now (handlers .exit)) (now (pool .exit)) (now (symbols .exit)))
+        ≡ irepOf (now (f .entry)) base limit (lent (now (records .entry)) (now (handlers .entry)) (now (pool .entry)) (now (symbols .entry))) ⌝ }
 {
     let read = SectionIrepHeader::from_bytes(f);
     let refusal = read.refusal;

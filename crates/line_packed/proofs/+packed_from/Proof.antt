@@ -40,21 +40,28 @@ returns-2 : (t : ℕ) → lts.Need-returns-2 (claims t) (at t) packed-from.Post
 returns-2 t c = let a = c .before .before .before .args in sym (packed-short (a .head .now) (a .left) (a .cur) (c .before .if1 .left) (c .if2 .taken))
 
 returns-3 : (t : ℕ) → lts.Need-returns-3 (claims t) (at t) packed-from.Post
-returns-3 t c = let a = c .before .before .before .before .before .args in sym (packed-last (a .head .now) (a .left) (a .cur) (c .before .before .before .if1 .left) (c .before .before .if2 .left) (c .if3 .taken))
+returns-3 t c =
+    let b = c .before .before in
+    let a = b .before .before .before .args in
+    sym (packed-last (a .head .now) (a .left) (a .cur) (b .before .if1 .left) (b .if2 .left) (c .if3 .taken))
 
 returns-4 : (t : ℕ) → lts.Need-returns-4 (claims t) (at t) packed-from.Post
 returns-4 t c =
-    let a = c .before .before .before .before .before .before .before .before .before .args in
+    let b = c .before .before .before .before in
+    let a = b .before .before .before .before .before .args in
     let v = c .before .code .given in
-    sym (packed-more (a .head .now) (a .left) (a .cur) (packedOf (Refused (v .0 .0))) (c .before .before .before .before .before .before .before .if1 .left) (c .before .before .before .before .before .before .if2 .left) (c .before .before .before .before .if3 .left)
+    sym (packed-more (a .head .now) (a .left) (a .cur) (packedOf (Refused (v .0 .0)))
+    (b .before .before .before .if1 .left) (b .before .before .if2 .left) (b .if3 .left)
     (ap packedOf (sym (v .1)) ∙ c .before .before .before .packed-from .ensures))
 
 returns-5 : (t : ℕ) → lts.Need-returns-5 (claims t) (at t) packed-from.Post
 returns-5 t c =
-    let a = c .before .before .before .before .before .before .before .before .before .before .before .args in
+    let b = c .before .before .before .before .before .before in
+    let a = b .before .before .before .before .before .args in
     let v = c .before .before .before .value .given in
     ap (λ n. ok (step n (v .0 .1 .0))) (c .above .ensures ∙ ap (λ w. wrap (w % 128 + 128 * v .0 .0)) (c .before .wide .ensures))
-    ∙ sym (packed-more (a .head .now) (a .left) (a .cur) (packedOf (Value (v .0 .0) (v .0 .1 .0))) (c .before .before .before .before .before .before .before .before .before .if1 .left) (c .before .before .before .before .before .before .before .before .if2 .left) (c .before .before .before .before .before .before .if3 .left)
+    ∙ sym (packed-more (a .head .now) (a .left) (a .cur) (packedOf (Value (v .0 .0) (v .0 .1 .0)))
+    (b .before .before .before .if1 .left) (b .before .before .if2 .left) (b .if3 .left)
     (ap packedOf (sym (v .1)) ∙ c .before .before .before .before .before .packed-from .ensures))
 
 pub +packed-from-spec : {M : Type 1} → statement M

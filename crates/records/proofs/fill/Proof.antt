@@ -1,4 +1,5 @@
--- `records::fill` meets its contract: a walk of its MIR, by hand, with a loop and a call in its turn. The invariant has the borrow closed, at i rows of the words and the rest as it was (`Filled.antt`'s `upTo`).
+-- `records::fill` meets its contract: a walk of its MIR, by hand, with a loop and a call in its turn. The invariant has the borrow closed, at i rows
+-- of the words and the rest as it was (`Filled.antt`'s `upTo`).
 -- A turn calls `row_at`, opens the borrow, stores the row whole, and closes the borrow. All that the proof knows of `row_at` is that it meets its contract. Nothing here names a field of the struct.
 -- Assumes nothing.
 use mathlib.Core.Path.{_≡_, refl, sym, _∙_, ap, subst}
@@ -23,7 +24,8 @@ use ghost.Atoms.{Atoms, sem}
 use contract.Monad.{Fun, fact}
 use contract.Running.{givenOf, tables, tablesOf}
 use types.Kit.{Given, Item, ‵, raw, _⊛_, some, later, ⋆, anyQ, atRet, _$_, _∵_, !, qed, by, move, keep, drop, use1, use2, split, join, pick, rewrite, fsplit, fjoin, feqI, suffices, frame, await, done}
-use types.Run.{look, init, store, store-raw, forget, stop, hop, fld, from, load, lit, unit-lit, of-opd, bin, and-then, no-more, assigns, assigns-last, land, stays, leaves-loop, returns, enter, alloc1, alloc0, params1, pass1, pass0, free1, free0, exec}
+use types.Run.{look, init, store, store-raw, forget, stop, hop, fld, from, load, lit, unit-lit, of-opd, bin, and-then, no-more, assigns, assigns-last}
+use types.Run.{land, stays, leaves-loop, returns, enter, alloc1, alloc0, params1, pass1, pass0, free1, free0, exec}
 use types.Part.{whole, sub, look-in}
 use sound.Loop.{loop-rule}
 use sound.WpLaws.{fmOf, WpFn-mono}
@@ -83,7 +85,8 @@ module _ {M : Type 1} (𝓤 : URA M) (H : Heap 𝓤) (A : Atoms 𝓤) (mem : Mem
   abbrev RowAt : Contract 𝓤
   RowAt = tripleOf 𝓤 H A row-at.signature (row-at.spec 𝓤 H A mem run)
 
-module _ {M : Type 1} (𝓤 : URA M) (H : Heap 𝓤) (A : Atoms 𝓤) (W : Given 𝓤 H A) (mem : Memory → SProp 𝓤) (run : Routine → Fun 𝓤) (κ κ′ : Lft) (q q′ : Share) (b o : ℕ) (γ : GName) (ys : List Record) (w : RefT (List ℕ)) where
+module _ {M : Type 1} (𝓤 : URA M) (H : Heap 𝓤) (A : Atoms 𝓤) (W : Given 𝓤 H A) (mem : Memory → SProp 𝓤) (run : Routine → Fun 𝓤) (κ κ′ : Lft) (q q′ : Share) (b o : ℕ)
+    (γ : GName) (ys : List Record) (w : RefT (List ℕ)) where
   abbrev n : ℕ
   n = length ys
 
@@ -196,8 +199,10 @@ module _ {M : Type 1} (𝓤 : URA M) (H : Heap 𝓤) (A : Atoms 𝓤) (W : Given
         move ! (4 ∷ []) $ use1 W (‵ Ow ⊛ ‵ Ow) (shr-slice-copy 𝓤 H A W (named 1) κ′ u32 .twice w (v ∷ [])) $ split ! $
         move ! (5 ∷ 0 ∷ []) $ use2 W (raw (RowAt 𝓤 H A mem run .pre (to i))) (asked i i-fits) $
         -- [what row_at asks; what the words own; obs; the borrow; its token; _3; _4; _5; _6; _7; _1; _2; …]
-        calls-at ! (fmOf 𝓤 H (W .laws) 𝓣) (RowAt 𝓤 H A mem run) known (to i) (and-then ! (load ! (from ! (stop !)) (look ! 11 refl)) (and-then ! (load ! (from ! (stop !)) (look ! 5 refl)) (no-more !))) (λ u.
-        use1 W (later (some (λ (r : Record). ((‵ (flft κ′ q′) ⊛ ‵ ftrue) ⊛ ‵ (T.the-row .own r (u ∷ []))) ⊛ raw (ensured 𝓤 H A row-at.ended (row-at.clauses 𝓤 H A mem run) (κ′, tt) (w, (i, tt)) tt r)))) (id⊢ 𝓤 _) $ await ! tt $ pick ! (λ r.
+        calls-at ! (fmOf 𝓤 H (W .laws) 𝓣) (RowAt 𝓤 H A mem run) known (to i)
+        (and-then ! (load ! (from ! (stop !)) (look ! 11 refl)) (and-then ! (load ! (from ! (stop !)) (look ! 5 refl)) (no-more !))) (λ u.
+        use1 W (later (some (λ (r : Record). ((‵ (flft κ′ q′) ⊛ ‵ ftrue) ⊛ ‵ (T.the-row .own r (u ∷ []))) ⊛ raw
+        (ensured 𝓤 H A row-at.ended (row-at.clauses 𝓤 H A mem run) (κ′, tt) (w, (i, tt)) tt r)))) (id⊢ 𝓤 _) $ await ! tt $ pick ! (λ r.
         split ! $ move ! (1 ∷ []) $ use1 W (raw (fact 𝓤 (r ≡ rowAt ws i))) (said i r) $ heard ! (r ≡ rowAt ws i) (λ e. split ! $ move ! (1 ∷ []) $
         peeks ! T.the-row (Is T.the-row) (shows 𝓤 H A T.the-row) r (u ∷ []) (λ is.
         -- [the row; the words' token; what the words own; obs; the borrow; its token; _3; _4; _5; room for _6; …]
@@ -207,7 +212,8 @@ module _ {M : Type 1} (𝓤 : URA M) (H : Heap 𝓤) (A : Atoms 𝓤) (W : Given
         assigns ! (bin ! (load ! (from ! (stop !)) (look ! 6 refl)) (lit ! tt) (scaled-fits i n 76 small (room .1))) (from ! (stop !)) (store ! 7 refl (tt, scaled-fits i n 76 small (room .1))) $
         assigns ! (bin ! (load ! (from ! (fld ! refl (stop !))) (look-in ! 11 (sub ! 0 refl (whole !)))) (load ! (from ! (stop !)) (look ! 7 refl)) tt) (from ! (stop !)) (init ! 10 refl (tt, tt)) $
         rewrite ! 10 (λ (p : ℕ). ‵ (fat fullShare tyPtr l₇ 0 (vptr b p))) (sym (place-is 76 o i)) refl $
-        opens-slice ! tt T.the-row l b o $ elem-out ! T.the-row (Is T.the-row) (shows 𝓤 H A T.the-row) (LL.vals T.the-type T′.the-laws) (LL.tells T.the-type T′.the-laws) fullShare l i r b o within (λ _.
+        opens-slice ! tt T.the-row l b o $
+        elem-out ! T.the-row (Is T.the-row) (shows 𝓤 H A T.the-row) (LL.vals T.the-type T′.the-laws) (LL.tells T.the-type T′.the-laws) fullShare l i r b o within (λ _.
         -- [rows[i]; what it owns; the others; the open borrow; obs; auth; the words' token; the row; what the words own; _3; _4; _5; _6; _7; …]
         assigns ! (of-opd ! (load ! (from ! (stop !)) (look ! 12 refl))) (from ! (hop ! (look ! 13 refl) (stop !))) (store-raw ! 0 refl (LL.lawful T.the-type T′.the-laws 𝓤 H A W .typed r _ is .0)) $
         move ! (1 ∷ []) $ drop ! $ move ! (0 ∷ 6 ∷ []) $ elem-put ! T.the-row fullShare l i r (u ∷ []) b o within $ closes-slice ! tt T.the-row l (set l i r) (length-set l i r) b o $
@@ -254,7 +260,8 @@ module _ {M : Type 1} (𝓤 : URA M) (H : Heap 𝓤) (A : Atoms 𝓤) (W : Given
         all = sym (add-zero i) ∙ f .left
     turn-at (suc t) i l f =
         more i l (Below (suc t)) (f .long) small (λ r e.
-        via 𝓤 (Inv t) (holds t (suc i) (set l i r) (record { left = omega (arith, f .left); long = length-set l i r ∙ f .long; rows = ap (set l i) e ∙ ap (λ (m : List Record). set m i (rowAt ws i)) (f .rows) ∙ up-to-more ws ys i small }))
+        via 𝓤 (Inv t) (holds t (suc i) (set l i r)
+        (record { left = omega (arith, f .left); long = length-set l i r ∙ f .long; rows = ap (set l i) e ∙ ap (λ (m : List Record). set m i (rowAt ws i)) (f .rows) ∙ up-to-more ws ys i small }))
         (via 𝓤 (guard 𝓤 (t < suc t) (Inv t)) (guardI 𝓤 (t < suc t) (Inv t) (omega arith)) (exI 𝓤 (λ (u : ℕ). guard 𝓤 (u < suc t) (Inv u)) t)))
       where
         small : i < n
@@ -270,7 +277,8 @@ module _ {M : Type 1} (𝓤 : URA M) (H : Heap 𝓤) (A : Atoms 𝓤) (W : Given
         (loop-rule 𝓤 H (W .laws) 𝓣 _<_ (Nat·lt-wfRel .wf) En code-mir.turn-1 Left Inv turns n)
 
   -- the MIR, up to the loop
-  walk : (𝓣 : Tables 𝓤 H) → Triple 𝓤 (𝓣 .C #records-row·row-at) (RowAt 𝓤 H A mem run) → Room T.the-row n → Room u32 (length ws) → ent 𝓤 (onEntry 𝓤 H A fill′.signature (κ, (κ′, tt)) (q, (q′, tt)) a vals)
+  walk : (𝓣 : Tables 𝓤 H) → Triple 𝓤 (𝓣 .C #records-row·row-at) (RowAt 𝓤 H A mem run) → Room T.the-row n → Room u32 (length ws)
+      → ent 𝓤 (onEntry 𝓤 H A fill′.signature (κ, (κ′, tt)) (q, (q′, tt)) a vals)
       (WpFn 𝓤 H (𝓣 .C) (𝓣 .Λ) code.function (s ∷ v ∷ []) Post)
   walk 𝓣 known room room-w =
       qed W ((‵ (flft κ q) ⊛ ‵ (flft κ′ q′) ⊛ ‵ ftrue) ∷ ‵ (owns (MutSlice (named 0) κ T.the-row ∷ ShrSlice (named 1) κ′ u32 ∷ []) a vals) ∷ []) ∵ enter ! (𝓣 .C) (𝓣 .Λ) code.function (s ∷ v ∷ []) _ $
@@ -281,7 +289,8 @@ module _ {M : Type 1} (𝓤 : URA M) (H : Heap 𝓤) (A : Atoms 𝓤) (W : Given
       -- [what the words own; true; the words' token; true; the borrow's token; obs; the borrow; the slice's fact; _7; …; _6; …; _5; …; _4; …; _3; …; _2; …; _1; …; room for _0; …]
       keep ! (5 ∷ 6 ∷ 4 ∷ 2 ∷ 0 ∷ 16 ∷ 14 ∷ 12 ∷ 10 ∷ 8 ∷ 20 ∷ 18 ∷ 22 ∷ 23 ∷ 21 ∷ 19 ∷ 17 ∷ 15 ∷ 13 ∷ 11 ∷ 9 ∷ []) $ by ! (loops 𝓣 known room l₀ l₁ l₂ l₃ l₄ l₅ l₆ l₇)))))))))
 
-module _ {M : Type 1} (𝓤 : URA M) (H : Heap 𝓤) (A : Atoms 𝓤) (W : Given 𝓤 H A) (mem : Memory → SProp 𝓤) (run : Routine → Fun 𝓤) (𝓣 : Tables 𝓤 H) (known : Triple 𝓤 (𝓣 .C #records-row·row-at) (RowAt 𝓤 H A mem run)) where
+module _ {M : Type 1} (𝓤 : URA M) (H : Heap 𝓤) (A : Atoms 𝓤) (W : Given 𝓤 H A) (mem : Memory → SProp 𝓤) (run : Routine → Fun 𝓤) (𝓣 : Tables 𝓤 H)
+    (known : Triple 𝓤 (𝓣 .C #records-row·row-at) (RowAt 𝓤 H A mem run)) where
   fill-walks : Walks 𝓤 H A fill′.ended stayed (WpFn 𝓤 H (𝓣 .C) (𝓣 .Λ) code.function) (fill′.clauses 𝓤 H A mem run)
   fill-walks = walked 𝓤 H A fill′.ended stayed (fill′.clauses 𝓤 H A mem run) (WpFn 𝓤 H (𝓣 .C) (𝓣 .Λ) code.function)
       (λ κs. (slice-vals, (slice-vals, tt))) (λ κs. (mut-slice-tells (named 0) (κs .0) T.the-row, (shr-slice-tells (named 1) (κs .1 .0) u32, tt)))

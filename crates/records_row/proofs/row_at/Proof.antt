@@ -13,7 +13,8 @@ returns c = simp (c .zero-row .ensures, le-ltb _ _ (c .before .if1 .taken))
 
 returns-2 : tie.Need-returns-2
 unfolding rowAt
-returns-2 c = simp (lt-ltb _ _ (c .before .before .before .before .before .before .before .before .before .before .before .before .before .before .before .before .before .before .before .if1 .left), add-zero)
+returns-2 c =
+    simp (lt-ltb _ _ (c .before .before .before .before .before .before .before .before .before .before .before .before .before .before .before .before .before .before .before .if1 .left), add-zero)
 
 pub row-at-spec : {M : Type 1} → statement M
 row-at-spec =

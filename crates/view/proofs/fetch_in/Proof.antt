@@ -12,7 +12,9 @@ use Rattle.view.proofs.fetch_in.Statement.{statement}
 use Rattle.view.proofs.fetch_in.Tie as tie
 
 returns : tie.Need-returns
-returns c = none-left (c .before .part .result .now) (c .before .before .before .args .at) (c .if1 .taken) ∙ ap (λ (l : List ℕ). fetch (drop (c .before .before .before .args .at) l)) (c .before .part .ensures)
+returns c =
+    none-left (c .before .part .result .now) (c .before .before .before .args .at) (c .if1 .taken)
+    ∙ ap (λ (l : List ℕ). fetch (drop (c .before .before .before .args .at) l)) (c .before .part .ensures)
 
 returns-2 : tie.Need-returns-2
 returns-2 c =

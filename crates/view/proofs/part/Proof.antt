@@ -10,10 +10,14 @@ returns : tie.Need-returns
 returns c = outside (c .before .before .args .file .now) (c .before .before .args .place) (c .before .before .args .size) (omega (arith, c .before .if1 .taken))
 
 returns-2 : tie.Need-returns-2
-returns-2 c = outside (c .before .before .before .args .file .now) (c .before .before .before .args .place) (c .before .before .before .args .size) (omega (arith, c .before .if2 .taken, c .before .before .if1 .left))
+returns-2 c =
+    outside (c .before .before .before .args .file .now) (c .before .before .before .args .place) (c .before .before .before .args .size)
+    (omega (arith, c .before .if2 .taken, c .before .before .if1 .left))
 
 returns-3 : tie.Need-returns-3
-returns-3 c = inside (c .before .before .before .args .file .now) (c .before .before .before .args .place) (c .before .before .before .args .size) (omega (arith, c .before .if2 .left, c .before .before .if1 .left))
+returns-3 c =
+    inside (c .before .before .before .args .file .now) (c .before .before .before .args .place) (c .before .before .before .args .size)
+    (omega (arith, c .before .if2 .left, c .before .before .if1 .left))
 
 pub part-spec : {M : Type 1} → statement M
 part-spec =

@@ -10,7 +10,17 @@ returns : tie.Need-returns
 returns c = rw (sub-zero, lt-leb _ _ (c .if1 .taken))
 
 returns-2 : tie.Need-returns-2
-returns-2 c = rw (sub-zero, le-leb _ _ (c .before .before .before .before .before .before .if1 .left), c .before .before .before .before .before .four .ensures, c .before .before .before .before .two .ensures, c .before .before .before .two2 .ensures, c .before .before .two3 .ensures, c .before .two4 .ensures, c .four2 .ensures)
+returns-2 c =
+    rw (
+      sub-zero,
+      le-leb _ _ (c .before .before .before .before .before .before .if1 .left),
+      c .before .before .before .before .before .four .ensures,
+      c .before .before .before .before .two .ensures,
+      c .before .before .before .two2 .ensures,
+      c .before .before .two3 .ensures,
+      c .before .two4 .ensures,
+      c .four2 .ensures,
+    )
 
 pub from-bytes-spec : {M : Type 1} → statement M
 from-bytes-spec =
