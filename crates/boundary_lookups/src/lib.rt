@@ -10,6 +10,7 @@ ghost use mathlib.Core.Path.{_≡_};
 ghost use Rattle.constant.specs.Answers as constant;
 ghost use Rattle.ranges.specs.Answers as ranges;
 ghost use Rattle.entries.specs.Answers as entries;
+ghost use Rattle.entries_debug.specs.Answers as debug;
 ghost use Rattle.boundary_lookups.specs.Structs.{textIs, handlerIs, valueIs, constantIs, nameIs, debugFileIs, lookedLineIs};
 
 // The place and length of bytes in the file.
@@ -193,7 +194,7 @@ pub fn name(a: NameAnswer) -> BlotheathName
 }
 
 pub fn debug_file(a: DebugFileAnswer) -> BlotheathDebugFile
-    ensures { λ r. ⌜ r ≡ debugFileIs (entries.debugFileOf a) ⌝ }
+    ensures { λ r. ⌜ r ≡ debugFileIs (debug.debugFileOf a) ⌝ }
 {
     match a {
         DebugFileAnswer::Row {
@@ -222,7 +223,7 @@ pub fn debug_file(a: DebugFileAnswer) -> BlotheathDebugFile
 }
 
 pub fn looked_line(a: LineAnswer) -> BlotheathLookedLine
-    ensures { λ r. ⌜ r ≡ lookedLineIs (entries.lineOf a) ⌝ }
+    ensures { λ r. ⌜ r ≡ lookedLineIs (debug.lineOf a) ⌝ }
 {
     match a {
         LineAnswer::At(l) => BlotheathLookedLine {

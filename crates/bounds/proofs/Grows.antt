@@ -39,7 +39,8 @@ pub record Less (c c′ : Content) : Type 0 where
   pub lines : length (tablesOf c .lines) ≤ length (tablesOf c′ .lines)
 
 pub same : (c : Content) → Less c c
-same c = record { records = le-refl _; handlers = le-refl _; pool = le-refl _; symbols = le-refl _; strings = le-refl _; names = le-refl _; fileNames = le-refl _; files = le-refl _; lines = le-refl _ }
+same c =
+    record { records = le-refl _; handlers = le-refl _; pool = le-refl _; symbols = le-refl _; strings = le-refl _; names = le-refl _; fileNames = le-refl _; files = le-refl _; lines = le-refl _ }
 
 pub less-less : (a b c : Content) → Less a b → Less b c → Less a c
 less-less a b c x y =
@@ -57,19 +58,50 @@ less-less a b c x y =
 
 -- IREP is the first to come
 from-nothing : (c : Content) → Less nothing c
-from-nothing c = record { records = omega arith; handlers = omega arith; pool = omega arith; symbols = omega arith; strings = omega arith; names = omega arith; fileNames = omega arith; files = omega arith; lines = omega arith }
+from-nothing c =
+    record {
+      records = omega arith;
+      handlers = omega arith;
+      pool = omega arith;
+      symbols = omega arith;
+      strings = omega arith;
+      names = omega arith;
+      fileNames = omega arith;
+      files = omega arith;
+      lines = omega arith;
+    }
 
 with-lvar : (rs : List Rec) (l : Lvar) (d : Option Debug) → Less (content (some rs) none d) (content (some rs) (some l) d)
 with-lvar rs l d =
     let e = rows-length rs start [] (filesOf (content (some rs) none d)) in
     let e′ = rows-length rs start (l .names) (filesOf (content (some rs) none d)) in
-    record { records = omega arith; handlers = le-refl _; pool = le-refl _; symbols = le-refl _; strings = omega arith; names = omega arith; fileNames = le-refl _; files = le-refl _; lines = le-refl _ }
+    record {
+      records = omega arith;
+      handlers = le-refl _;
+      pool = le-refl _;
+      symbols = le-refl _;
+      strings = omega arith;
+      names = omega arith;
+      fileNames = le-refl _;
+      files = le-refl _;
+      lines = le-refl _;
+    }
 
 with-dbg : (rs : List Rec) (l : Option Lvar) (d : Debug) → Less (content (some rs) l none) (content (some rs) l (some d))
 with-dbg rs l d =
     let e = rows-length rs start (namesOf (content (some rs) l none)) [] in
     let e′ = rows-length rs start (namesOf (content (some rs) l none)) (d .files) in
-    record { records = omega arith; handlers = le-refl _; pool = le-refl _; symbols = le-refl _; strings = le-refl _; names = le-refl _; fileNames = omega arith; files = omega arith; lines = omega arith }
+    record {
+      records = omega arith;
+      handlers = le-refl _;
+      pool = le-refl _;
+      symbols = le-refl _;
+      strings = le-refl _;
+      names = le-refl _;
+      fileNames = omega arith;
+      files = omega arith;
+      lines = omega arith;
+    }
 
 -- what a section does to the content: it stays in order, and loses no row
 pub record Grown (c c′ : Content) : Type 0 where

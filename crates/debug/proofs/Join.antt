@@ -171,7 +171,8 @@ module _ (s : List ℕ) (names mf ml : ℕ) where
       by-file h free q b ih (Ran.stop k p x (t, d)) = rw (q, whole, b, d, p) (Ran.stop k refl x (_, refl))
       by-file h free q b ih (Ran.full x (t, d)) =
           rw (q, whole, b, d)
-          (Ran.full (λ r. x (room-less mf ml (fs ++ fileAt s h ∷ []) (andThen (fileLines s h .end) (filesFrom s names n (some (h .start))) .rows) (rw (append-assoc fs (fileAt s h ∷ [])) r))) (_, refl))
+          (Ran.full (λ r. x (room-less mf ml (fs ++ fileAt s h ∷ []) (andThen (fileLines s h .end) (filesFrom s names n (some (h .start))) .rows)
+          (rw (append-assoc fs (fileAt s h ∷ [])) r))) (_, refl))
 
       by-row : (h : FileHead) → fileHead s names last at ≡ ok h → Later → (b : Bool) → ltb (length fs) (rowCount mf 4) ≡ b → Goal
       by-row h q ih true b = let free = ltb-true (length fs) (rowCount mf 4) b in by-file h free q b ih (file-ran h fs room free)
@@ -232,7 +233,8 @@ module _ (s : List ℕ) (names m mf ml : ℕ) (nss : List (List NameRow)) where
         → putRanges (R all fss) (length fss * 19) (held-files mf ml at (joined fss) .used) (held-files mf ml at (joined fss ++ fs) .used) ≡ R all (fss ++ fs ∷ [])
     put-is fs =
         let f : length (joined fss ++ fs) - length (joined fss) ≡ length fs = rw length-append (omega arith) in
-        let l : length (mapOfFiles (joined fss ++ fs)) - length (mapOfFiles (joined fss)) ≡ length (mapOfFiles fs) = rw (gathered-append (λ x. x .lines) (joined fss) fs, length-append) (omega arith) in
+        let l : length (mapOfFiles (joined fss ++ fs)) - length (mapOfFiles (joined fss)) ≡ length (mapOfFiles fs) =
+        rw (gathered-append (λ x. x .lines) (joined fss) fs, length-append) (omega arith) in
         let y : 0 + length (joined fss) ≡ length (joined fss) = omega arith in
         let z : 0 + length (mapOfFiles (joined fss)) ≡ length (mapOfFiles (joined fss)) = omega arith in
         rw (f, l, e) (rw (y, z) at (files-put m start qs r rs nss fss fs e))

@@ -245,7 +245,8 @@ fn read_record(
     used: Used,
 ) -> Walk
     requires { ⌜ rec * 19 + 18 < length (now records) ⌝ }
-    ensures { λ r. ⌜ walkRun r (now (records .exit)) (now (files .exit)) (now (lines .exit)) ≡ stepOf (now (s .entry)) names (state rec (now (records .entry)) (spot at used (tabs (now (files .entry)) (now (lines .entry))))) ⌝ }
+    ensures { λ r. ⌜ walkRun r (now (records .exit)) (now (files .exit)) (now (lines .exit))
+        ≡ stepOf (now (s .entry)) names (state rec (now (records .entry)) (spot at used (tabs (now (files .entry)) (now (lines .entry))))) ⌝ }
 {
     if rest(s, at) < 6 {
         return Walk::Refused(7);
@@ -295,7 +296,8 @@ fn read_debug_record(
     used: Used,
 ) -> Walk
     requires { ⌜ count * 19 ≤ length (now records) ⌝ }
-    ensures { λ r. ⌜ walkRun r (now (records .exit)) (now (files .exit)) (now (lines .exit)) ≡ walkOf (now (s .entry)) names count 1 (state rec (now (records .entry)) (spot at used (tabs (now (files .entry)) (now (lines .entry))))) ⌝ }
+    ensures { λ r. ⌜ walkRun r (now (records .exit)) (now (files .exit)) (now (lines .exit))
+        ≡ walkOf (now (s .entry)) names count 1 (state rec (now (records .entry)) (spot at used (tabs (now (files .entry)) (now (lines .entry))))) ⌝ }
 {
     if reads_nothing(s, at, count, rec) {
         return Walk::Next { at, rec, used };
@@ -357,7 +359,8 @@ fn read_walk(
     texts: u32,
 ) -> Debug
     requires { ⌜ (length (now s) ≤ 65536) × (count * 19 ≤ length (now records)) ⌝ }
-    ensures { λ r. ⌜ walked r (now (records .exit)) (now (files .exit)) (now (lines .exit)) ≡ walkedOf (now (s .entry)) names count texts at (now (records .entry)) (tabs (now (files .entry)) (now (lines .entry))) ⌝ }
+    ensures { λ r. ⌜ walked r (now (records .exit)) (now (files .exit)) (now (lines .exit))
+        ≡ walkedOf (now (s .entry)) names count texts at (now (records .entry)) (tabs (now (files .entry)) (now (lines .entry))) ⌝ }
 {
     let used = Used { files: 0, lines: 0 };
     match read_debug_record(s, names, at, 0, count, records, files, lines, used) {
@@ -386,7 +389,8 @@ fn read_content(
     lines: &mut [u32],
 ) -> Debug
     requires { ⌜ (base + length (now s) ≤ 65536) × (count * 19 ≤ length (now records)) ⌝ }
-    ensures { λ r. ⌜ filled r (tables (now (records .exit)) (now (texts .exit)) (now (files .exit)) (now (lines .exit))) ≡ contentOf (now (s .entry)) base count (tables (now (records .entry)) (now (texts .entry)) (now (files .entry)) (now (lines .entry))) ⌝ }
+    ensures { λ r. ⌜ filled r (tables (now (records .exit)) (now (texts .exit)) (now (files .exit)) (now (lines .exit)))
+        ≡ contentOf (now (s .entry)) base count (tables (now (records .entry)) (now (texts .entry)) (now (files .entry)) (now (lines .entry))) ⌝ }
 {
     if rest(s, 8) < 2 {
         return Debug::Refused(7);
@@ -409,7 +413,8 @@ pub fn parse_debug_section(
     lines: &mut [u32],
 ) -> Debug
     requires { ⌜ (base + length (now f) ≤ 65536) × (count * 19 ≤ length (now records)) ⌝ }
-    ensures { λ r. ⌜ filled r (tables (now (records .exit)) (now («file_names» .exit)) (now (files .exit)) (now (lines .exit))) ≡ debugOf (now (f .entry)) base count (tables (now (records .entry)) (now («file_names» .entry)) (now (files .entry)) (now (lines .entry))) ⌝ }
+    ensures { λ r. ⌜ filled r (tables (now (records .exit)) (now («file_names» .exit)) (now (files .exit)) (now (lines .exit)))
+        ≡ debugOf (now (f .entry)) base count (tables (now (records .entry)) (now («file_names» .entry)) (now (files .entry)) (now (lines .entry))) ⌝ }
 {
     match section_size(f) {
         Field32::Refused(k) => Debug::Refused(k),

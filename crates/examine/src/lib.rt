@@ -35,7 +35,12 @@ pub fn load_passing(
     lines: &mut [u32],
     rows: usize,
 ) -> Loaded
-    ensures { λ r. ⌜ loadedOf r (words (now (records .exit)) (now (handlers .exit)) (now (pool .exit)) (now (symbols .exit)) (now (strings .exit)) (now (names .exit)) (now (filenames .exit)) (now (files .exit)) (now (lines .exit))) ≡ laid (sizes (words (now (records .entry)) (now (handlers .entry)) (now (pool .entry)) (now (symbols .entry)) (now (strings .entry)) (now (names .entry)) (now (filenames .entry)) (now (files .entry)) (now (lines .entry)))) (passingIn (now (f .entry)) (sizes (words (now (records .entry)) (now (handlers .entry)) (now (pool .entry)) (now (symbols .entry)) (now (strings .entry)) (now (names .entry)) (now (filenames .entry)) (now (files .entry)) (now (lines .entry)))) rows) ⌝ }
+    ensures { λ r. ⌜ loadedOf r (words (now (records .exit)) (now (handlers .exit)) (now (pool .exit)) (now (symbols .exit)) (now (strings .exit)) (now (names .exit))
+        (now (filenames .exit)) (now (files .exit)) (now (lines .exit)))
+        ≡ laid (sizes (words (now (records .entry)) (now (handlers .entry)) (now (pool .entry)) (now (symbols .entry)) (now (strings .entry)) (now (names .entry))
+        (now (filenames .entry)) (now (files .entry)) (now (lines .entry))))
+        (passingIn (now (f .entry)) (sizes (words (now (records .entry)) (now (handlers .entry)) (now (pool .entry)) (now (symbols .entry)) (now (strings .entry))
+        (now (names .entry)) (now (filenames .entry)) (now (files .entry)) (now (lines .entry)))) rows) ⌝ }
 {
     match rite::load(
         f,
@@ -84,7 +89,10 @@ pub fn examine(
     files: &mut [u32],
     lines: &mut [u32],
 ) -> Loaded
-    ensures { λ r. ⌜ loadedOf r (words (now (records .exit)) (now (handlers .exit)) (now (pool .exit)) (now (symbols .exit)) (now (strings .exit)) (now (names .exit)) (now (filenames .exit)) (now (files .exit)) (now (lines .exit))) ≡ examine (now (f .entry)) (sizes (words (now (records .entry)) (now (handlers .entry)) (now (pool .entry)) (now (symbols .entry)) (now (strings .entry)) (now (names .entry)) (now (filenames .entry)) (now (files .entry)) (now (lines .entry)))) ⌝ }
+    ensures { λ r. ⌜ loadedOf r (words (now (records .exit)) (now (handlers .exit)) (now (pool .exit)) (now (symbols .exit)) (now (strings .exit)) (now (names .exit))
+        (now (filenames .exit)) (now (files .exit)) (now (lines .exit)))
+        ≡ examine (now (f .entry)) (sizes (words (now (records .entry)) (now (handlers .entry)) (now (pool .entry)) (now (symbols .entry)) (now (strings .entry))
+        (now (names .entry)) (now (filenames .entry)) (now (files .entry)) (now (lines .entry)))) ⌝ }
 {
     load_passing(
         f,

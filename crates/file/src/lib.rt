@@ -39,7 +39,10 @@ fn read_section(
     p: Progress,
 ) -> Section
     requires { ⌜ (at + 4 ≤ length (now f)) × (length (now f) ≤ 65536) ⌝ }
-    ensures { λ r. ⌜ out r (words (now (records .exit)) (now (handlers .exit)) (now (pool .exit)) (now (symbols .exit)) (now (strings .exit)) (now (names .exit)) (now (filenames .exit)) (now (files .exit)) (now (lines .exit))) ≡ sectionOut (now (f .entry)) limit at (words (now (records .entry)) (now (handlers .entry)) (now (pool .entry)) (now (symbols .entry)) (now (strings .entry)) (now (names .entry)) (now (filenames .entry)) (now (files .entry)) (now (lines .entry))) p ⌝ }
+    ensures { λ r. ⌜ out r (words (now (records .exit)) (now (handlers .exit)) (now (pool .exit)) (now (symbols .exit)) (now (strings .exit)) (now (names .exit))
+        (now (filenames .exit)) (now (files .exit)) (now (lines .exit)))
+        ≡ sectionOut (now (f .entry)) limit at (words (now (records .entry)) (now (handlers .entry)) (now (pool .entry)) (now (symbols .entry)) (now (strings .entry))
+        (now (names .entry)) (now (filenames .entry)) (now (files .entry)) (now (lines .entry))) p ⌝ }
 {
     match peek4(f, at) {
         Mark::Irep => irep_at(f, at, limit, records, handlers, pool, symbols, p),
@@ -65,7 +68,11 @@ pub fn read_sections(
     lines: &mut [u32],
 ) -> Loaded
     requires { ⌜ length (now f) ≤ 65536 ⌝ }
-    ensures { λ r. ⌜ loaded r (words (now (records .exit)) (now (handlers .exit)) (now (pool .exit)) (now (symbols .exit)) (now (strings .exit)) (now (names .exit)) (now (filenames .exit)) (now (files .exit)) (now (lines .exit))) ≡ sectionsOut (now (f .entry)) limit (length (now (f .entry))) 20 (words (now (records .entry)) (now (handlers .entry)) (now (pool .entry)) (now (symbols .entry)) (now (strings .entry)) (now (names .entry)) (now (filenames .entry)) (now (files .entry)) (now (lines .entry))) begun ⌝ }
+    ensures { λ r. ⌜ loaded r (words (now (records .exit)) (now (handlers .exit)) (now (pool .exit)) (now (symbols .exit)) (now (strings .exit)) (now (names .exit))
+        (now (filenames .exit)) (now (files .exit)) (now (lines .exit)))
+        ≡ sectionsOut (now (f .entry)) limit (length (now (f .entry))) 20
+        (words (now (records .entry)) (now (handlers .entry)) (now (pool .entry)) (now (symbols .entry)) (now (strings .entry)) (now (names .entry))
+        (now (filenames .entry)) (now (files .entry)) (now (lines .entry))) begun ⌝ }
 {
     let mut left = f.len();
     let mut at = 20;

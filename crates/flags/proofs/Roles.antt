@@ -193,7 +193,15 @@ module _ {c : List ℕ} {o d : ℕ} (k : Looked c o d) where
   unfolding opcode
   both-are l =
       below-parts (bare l c) o
-      ∙ rw (first-told, second-told, role-back (firstRole (row (byte c o))), role-back (secondRole (row (byte c o))), below-any l c (firstRole (row (byte c o))) (byte c (o + 1)), below-any l c (secondRole (row (byte c o))) (byte c (o + 2)))
+      ∙ rw (
+        first-told,
+        second-told,
+        role-back (firstRole (row (byte c o))),
+        role-back (secondRole (row (byte c o))),
+        below-any l c (firstRole (row (byte c o)))
+            (byte c (o + 1)),
+        below-any l c (secondRole (row (byte c o))) (byte c (o + 2)),
+      )
 
   next-is : o + d % 8 ≡ next c o
   unfolding rest

@@ -27,7 +27,10 @@ pub fn follow(
     frames: &mut [u32],
     choices: &[u8],
 ) -> Followed
-    ensures { λ r. ⌜ followed r (words (now (records .exit)) (now (handlers .exit)) (now (pool .exit)) (now (symbols .exit)) (now (strings .exit)) (now (names .exit)) (now (filenames .exit)) (now (files .exit)) (now (lines .exit))) (now (frames .exit)) ≡ follow (now (f .entry)) (sizes (words (now (records .entry)) (now (handlers .entry)) (now (pool .entry)) (now (symbols .entry)) (now (strings .entry)) (now (names .entry)) (now (filenames .entry)) (now (files .entry)) (now (lines .entry)))) (length (now (frames .entry))) (now (choices .entry)) ⌝ }
+    ensures { λ r. ⌜ followed r (words (now (records .exit)) (now (handlers .exit)) (now (pool .exit)) (now (symbols .exit)) (now (strings .exit)) (now (names .exit))
+        (now (filenames .exit)) (now (files .exit)) (now (lines .exit))) (now (frames .exit))
+        ≡ follow (now (f .entry)) (sizes (words (now (records .entry)) (now (handlers .entry)) (now (pool .entry)) (now (symbols .entry)) (now (strings .entry))
+        (now (names .entry)) (now (filenames .entry)) (now (files .entry)) (now (lines .entry)))) (length (now (frames .entry))) (now (choices .entry)) ⌝ }
 {
     match load_passing(
         f,

@@ -9,7 +9,8 @@ use lib.Dec.{leb}
 use lib.ListN.{length, getD, drop}
 use Rattle.format.specs.Bytes.{Answer, ok, refused, onAnswer}
 use Rattle.format.specs.Reading.{Part}
-use Rattle.format.specs.Rows.{Range, range, RecordRow, HandlerRow, PoolRow, TextRow, NameRow, FileRow, LineRow, recordWords, handlerWords, poolWords, textWords, nameWords, fileWords, lineWords, tableOf}
+use Rattle.format.specs.Rows.{Range, range, RecordRow, HandlerRow, PoolRow, TextRow, NameRow, FileRow, LineRow, recordWords, handlerWords}
+use Rattle.format.specs.Rows.{poolWords, textWords, nameWords, fileWords, lineWords, tableOf}
 use Rattle.format.specs.Irep.{Rec}
 use Rattle.format.specs.Lvar.{Lvar}
 use Rattle.format.specs.Debug.{File, Debug}

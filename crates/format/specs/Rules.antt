@@ -5,7 +5,10 @@ use Prim.Native.Nat.{ℕ}
 use mathlib.Core.Bool.{Bool, false, _||_, _&&_, cond}
 use mathlib.Core.List.{List, [], _∷_}
 use lib.Dec.{eqb, leb}
-use Rattle.format.specs.Insn.{OpCode, MOVE, LOADL, LOADSYM, GETGV, SETMCNST, JMP, JMPIF, JMPNOT, JMPNIL, JMPUW, RESCUE, SSEND, SSENDB, SEND, SENDB, CALL, «KEY_P», KARG, RETURN, «RETURN_BLK», RETSELF, RETNIL, RETTRUE, RETFALSE, BREAK, ARRAY2, AREF, ASET, SYMBOL, STRING, LAMBDA, BLOCK, METHOD, CLASS, MODULE, EXEC, DEF, ALIAS, UNDEF, DEBUG, ERR, STOP, number, Kind, Z, B, BB, S, BBB, BS, W, BSS, Role, reg, pool, sym, child, plain, Flow, on, ends, jumps, may, Row, op}
+use Rattle.format.specs.Insn.{OpCode, MOVE, LOADL, LOADSYM, GETGV, SETMCNST, JMP, JMPIF, JMPNOT, JMPNIL, JMPUW, RESCUE, SSEND, SSENDB, SEND}
+use Rattle.format.specs.Insn.{SENDB, CALL, «KEY_P», KARG, RETURN, «RETURN_BLK», RETSELF, RETNIL, RETTRUE, RETFALSE, BREAK, ARRAY2, AREF, ASET}
+use Rattle.format.specs.Insn.{SYMBOL, STRING, LAMBDA, BLOCK, METHOD, CLASS, MODULE, EXEC, DEF, ALIAS, UNDEF, DEBUG, ERR, STOP, number, Kind, Z}
+use Rattle.format.specs.Insn.{B, BB, S, BBB, BS, W, BSS, Role, reg, pool, sym, child, plain, Flow, on, ends, jumps, may, Row, op}
 
 abbrev pub among : List OpCode → OpCode → Bool
 among [] o = false

@@ -97,7 +97,8 @@ module _ (limit : ℕ) (m : Nine) where
 
     after-pool : (a c : ℕ) → hr .end ≡ ok a → pr a .end ≡ ok c
         → length (b .handlers ++ hr .rows) ≤ rowCount (m .handlers) 4 → length (b .pool ++ pr a .rows) ≤ rowCount (m .pool) 3
-        → times (handlerOf f) clen at (length (b .handlers)) (lentOf m b .handlers) ≡ out (rows.Next a (length (b .handlers ++ hr .rows))) (tableOf handlerWords (m .handlers) (b .handlers ++ hr .rows))
+        → times (handlerOf f) clen at (length (b .handlers)) (lentOf m b .handlers) ≡ out (rows.Next a (length (b .handlers ++ hr .rows)))
+        (tableOf handlerWords (m .handlers) (b .handlers ++ hr .rows))
         → countedOf f base Pool a (length (b .pool)) (lentOf m b .pool) ≡ out (rows.Next c (length (b .pool ++ pr a .rows))) (tableOf poolWords (m .pool) (b .pool ++ pr a .rows))
         → RowsRan textWords 2 (λ _. refl) (omega arith) (m .symbols) (b .symbols) (sr c) (countedOf f base Symbol c (length (b .symbols)) (lentOf m b .symbols))
         → BodyRan b P O
@@ -107,7 +108,8 @@ module _ (limit : ℕ) (m : Nine) where
     after-pool a c p q x y d e (Ran.full t g) = rw (p, q, d, e, g) (Ran.full (λ r. t (r .symbols)) refl)
 
     after-handlers : (a : ℕ) → hr .end ≡ ok a → length (b .handlers ++ hr .rows) ≤ rowCount (m .handlers) 4
-        → times (handlerOf f) clen at (length (b .handlers)) (lentOf m b .handlers) ≡ out (rows.Next a (length (b .handlers ++ hr .rows))) (tableOf handlerWords (m .handlers) (b .handlers ++ hr .rows))
+        → times (handlerOf f) clen at (length (b .handlers)) (lentOf m b .handlers) ≡ out (rows.Next a (length (b .handlers ++ hr .rows)))
+        (tableOf handlerWords (m .handlers) (b .handlers ++ hr .rows))
         → RowsRan poolWords 3 (λ _. refl) (omega arith) (m .pool) (b .pool) (pr a) (countedOf f base Pool a (length (b .pool)) (lentOf m b .pool))
         → BodyRan b P O
     unfolding bodyOf bodyAt countedOf
@@ -168,12 +170,14 @@ module _ (limit : ℕ) (m : Nine) where
       abbrev the-rec : Body → Rec
       the-rec x = record { head = headAt f at; place = base + (at + 16); body = x }
 
-      finish-zero : (x : Body) → eqb (headAt f at .size) 0 ≡ true → finishOf (headAt f at) base at (lentOf m b .records) (usedOf b) (usedOf (grow b x)) ≡ placed (reached.Refused 8) (lentOf m b .records)
+      finish-zero : (x : Body) → eqb (headAt f at .size) 0 ≡ true
+          → finishOf (headAt f at) base at (lentOf m b .records) (usedOf b) (usedOf (grow b x)) ≡ placed (reached.Refused 8) (lentOf m b .records)
       unfolding finishOf
       finish-zero x z = rw z
 
       finish-there : (x : Body) → eqb (headAt f at .size) 0 ≡ false
-          → finishOf (headAt f at) base at (lentOf m b .records) (usedOf b) (usedOf (grow b x)) ≡ placed (reached.Next (at + headAt f at .size) (usedOf (put b (the-rec x)))) (lentOf m (put b (the-rec x)) .records)
+          → finishOf (headAt f at) base at (lentOf m b .records) (usedOf b) (usedOf (grow b x)) ≡ placed
+          (reached.Next (at + headAt f at .size) (usedOf (put b (the-rec x)))) (lentOf m (put b (the-rec x)) .records)
       unfolding finishOf
       finish-there x z =
           let next = at + headAt f at .size in
@@ -221,7 +225,14 @@ module _ (limit : ℕ) (m : Nine) where
       by-code true c = by-body c (body-ran f base (headAt f at .clen) (at + 16 + headAt f at .ilen) b rm)
       by-code false c =
           rw (there, low, records-length, free, c)
-          (Ran.stop 7 refl (record { within = limit′ (the-rec (body [] [] [])); records = records′ (the-rec (body [] [] [])); handlers = rw append-nil (rm .handlers); pool = rw append-nil (rm .pool); symbols = rw append-nil (rm .symbols) }) refl)
+          (Ran.stop 7 refl (record {
+            within = limit′ (the-rec (body [] [] []));
+            records = records′ (the-rec (body [] [] []));
+            handlers = rw append-nil
+                (rm .handlers);
+            pool = rw append-nil (rm .pool);
+            symbols = rw append-nil (rm .symbols);
+          }) refl)
 
     by-rows : leb limit (length (b .records)) ≡ false → (c : Bool) → leb (rowCount (m .records) 19) (length (b .records)) ≡ c → RecordRan b Q OO
     unfolding recordOf
@@ -335,7 +346,8 @@ module _ (limit : ℕ) (m : Nine) where
     Goal = IrepRan (irepSection f base) (irepOf f base limit (lentOf m (held [])))
 
     module _ (there : has f 0 12 ≡ true) (inside : leb size (length f) ≡ true) where
-      section-run : irepOf f base limit (lentOf m (held [])) ≡ onReached (o .ans) (λ _ u. cond (eqb size 0) (sectionRun (section.Refused 8) (o .tabs)) (sectionRun (section.Next size u) (o .tabs))) (λ k. sectionRun (section.Refused k) (o .tabs))
+      section-run : irepOf f base limit (lentOf m (held []))
+          ≡ onReached (o .ans) (λ _ u. cond (eqb size 0) (sectionRun (section.Refused 8) (o .tabs)) (sectionRun (section.Next size u) (o .tabs))) (λ k. sectionRun (section.Refused k) (o .tabs))
       unfolding irepOf
       section-run = rw (there, inside)
 

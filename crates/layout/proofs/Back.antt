@@ -12,7 +12,8 @@ use lib.ListN.{length, getD, replicate, length-append, length-replicate, length-
 use lib.Seq.{ext-getD, getD-append-add}
 use borrow.Author.Tests.{lt-ltb, le-ltb, le-leb}
 use Rattle.format.specs.Bytes.{ok, refused}
-use Rattle.format.specs.Rows.{Range, HandlerRow, handlerWords, PoolRow, poolWords, TextRow, textWords, NameRow, nameWords, FileRow, fileWords, LineRow, lineRow, lineWords, RecordRow, recordWords, flat, tableOf}
+use Rattle.format.specs.Rows.{Range, HandlerRow, handlerWords, PoolRow, poolWords, TextRow, textWords, NameRow, nameWords, FileRow, fileWords}
+use Rattle.format.specs.Rows.{LineRow, lineRow, lineWords, RecordRow, recordWords, flat, tableOf}
 use Rattle.format.specs.Line.{rowsFrom, lineRowAt}
 use Rattle.format.specs.Lookup.{word, recordRowAt, handlerRowAt, poolRowAt, textRowAt, fileRowAt, hasRow, rowIn, rowsIn}
 use Rattle.format.proofs.Places.{flat-length}

@@ -13,7 +13,7 @@ use Rattle.format.specs.Bytes.{Answer, ok, refused, bind}
 use Rattle.format.specs.Rows.{Range, RecordRow, textRow}
 use Rattle.format.specs.Lookup as format
 use Rattle.ranges.specs.Leaves.{range, recordWords, rowAmong, recordRow}
-use Rattle.entries.specs.Lines.{lineIn}
+use Rattle.entries_debug.specs.Lines.{lineIn}
 
 -- words are missing where the record is
 pub record-missing : (t : List ℕ) (r k : ℕ) → refused 22 ≡ recordWords t r k → format.recordIn t r ≡ refused 22

@@ -112,7 +112,8 @@ module _ (f : List ℕ) (strings m k : ℕ) (fss : List (List File)) where
       by-names ih (Ran.full x d) =
           rw (run-is, read-is, step-is, d)
           (Ran.full (λ y. let g = andThen (names .end) (reading-of rs (r .head .rlen + pending)) .rows in
-          let l : length (joined (nss ++ names .rows ∷ g)) ≡ length (joined nss) + (length (names .rows) + length (joined g)) = rw (joined-append nss (names .rows ∷ g), length-append, length-append) in
+          let l : length (joined (nss ++ names .rows ∷ g)) ≡ length (joined nss) + (length (names .rows) + length (joined g)) =
+          rw (joined-append nss (names .rows ∷ g), length-append, length-append) in
           x (rw length-append (omega arith))) (_, refl))
 
     none-left : eqb (r .head .nlocals) 0 ≡ true → Goal
@@ -131,7 +132,8 @@ module _ (f : List ℕ) (strings m k : ℕ) (fss : List (List File)) where
   walk-ran (r ∷ rs) qs nss zero at e fit = Ran.went at refl (rw append-nil fit) (rw (append-nil nss))
   walk-ran (r ∷ rs) qs nss (suc pending) at e fit =
       visit-ran qs r rs nss e fit pending at
-      (λ a y. rw (append-assoc qs (r ∷ []) rs) at (walk-ran rs (qs ++ r ∷ []) (nss ++ inTurn (nameEntry f strings) (r .head .nlocals - 1) at .rows ∷ []) (r .head .rlen + pending) a (rw (length-append, length-append, e)) y))
+      (λ a y. rw (append-assoc qs (r ∷ []) rs) at
+      (walk-ran rs (qs ++ r ∷ []) (nss ++ inTurn (nameEntry f strings) (r .head .nlocals - 1) at .rows ∷ []) (r .head .rlen + pending) a (rw (length-append, length-append, e)) y))
       (eqb (r .head .nlocals) 0) refl
 
 -- the section: m has the sizes of the tables

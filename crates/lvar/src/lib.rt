@@ -159,7 +159,8 @@ pub fn section_lvar(
     names: &mut [u32],
 ) -> Lvar
     requires { ⌜ (base + length (now f) ≤ 65536) × (count * 19 ≤ length (now records)) ⌝ }
-    ensures { λ r. ⌜ filled r (now (records .exit)) (now (strings .exit)) (now (names .exit)) ≡ lvarOf (now (f .entry)) base count (now (records .entry)) (now (strings .entry)) (now (names .entry)) ⌝ }
+    ensures { λ r. ⌜ filled r (now (records .exit)) (now (strings .exit)) (now (names .exit))
+        ≡ lvarOf (now (f .entry)) base count (now (records .entry)) (now (strings .entry)) (now (names .entry)) ⌝ }
 {
     let Field32::Value(size) = section_size(f) else {
         return Lvar::Refused(7);

@@ -10,7 +10,8 @@ use lib.Dec.{T, eqb, leb, eqb→eq, leb→le}
 use lib.ListN.{length, getD, take, drop}
 use borrow.Author.Tests.{lt-ltb, le-ltb}
 use Rattle.format.specs.Bytes.{byte, u16At}
-use Rattle.format.specs.Insn.{Role, reg, pool, sym as symbol, child, plain, Flow, on, ends, jumps, may, Row, fields, width, kind, roles, flow, table, row, operand, operands, opcode, rowAt, operandsAt, rest, next, target}
+use Rattle.format.specs.Insn.{Role, reg, pool, sym as symbol, child, plain, Flow, on, ends, jumps, may, Row, fields, width, kind, roles, flow, table}
+use Rattle.format.specs.Insn.{row, operand, operands, opcode, rowAt, operandsAt, rest, next, target}
 use Rattle.format.specs.Lookup.{word}
 use Rattle.format.specs.Pattern.{Record, begins, lands}
 use Rattle.format.specs.Exam.{leads, hasTarget, follows}

@@ -265,7 +265,19 @@ module _ (limit : ℕ) (m : Nine) (f : List ℕ) where
       by-there false h ih = rw h (Ran.went at refl r refl)
 
   nothing-room : Room limit m nothing
-  nothing-room = record { limited = omega arith; records = omega arith; handlers = omega arith; pool = omega arith; symbols = omega arith; strings = omega arith; names = omega arith; fileNames = omega arith; files = omega arith; lines = omega arith }
+  nothing-room =
+      record {
+        limited = omega arith;
+        records = omega arith;
+        handlers = omega arith;
+        pool = omega arith;
+        symbols = omega arith;
+        strings = omega arith;
+        names = omega arith;
+        fileNames = omega arith;
+        files = omega arith;
+        lines = omega arith;
+      }
 
   -- a file, with its tests
   pub file-ran : FileRan (fileReading f) (fileOut f limit (held-words nothing))
@@ -309,6 +321,7 @@ module _ (m : Nine) (f : List ℕ) (bytes : (i : ℕ) → getD f i 0 < 256) wher
   load-is = by-run (file-ran 1024 m f)
     where
       by-run : FileRan 1024 m f p o → load f m ≡ onLoaded (o .ans) (λ u. loadedOf (loaded-is.Rows u) (o .tables)) (λ e. loadedOf (loaded-is.Refused e) (wordsOf m (tablesOf nothing)))
-      by-run (Ran.went at e x d) = rw d (is-loaded at e (fits-true 1024 m (p .it) x) ∙ rw (rows-length (recordsOf (p .it)) start (namesOf (p .it)) (filesOf (p .it)), fileRows-length 0 (joined (filesOf (p .it)))))
+      by-run (Ran.went at e x d) =
+          rw d (is-loaded at e (fits-true 1024 m (p .it) x) ∙ rw (rows-length (recordsOf (p .it)) start (namesOf (p .it)) (filesOf (p .it)), fileRows-length 0 (joined (filesOf (p .it)))))
       by-run (Ran.stop k e x d) = rw d (is-refused k e (fits-true 1024 m (p .it) x))
       by-run (Ran.full x d) = rw d (is-full (fits-false 1024 m (p .it) (omega arith) (reading-bounds f bytes) x))

@@ -10,11 +10,24 @@ pub use Rattle.tables.specs.Tables.{words, Zeros}
 
 -- their lengths
 abbrev pub sizes : format.Words → format.Nine
-sizes t = record { records = length (t .records); handlers = length (t .handlers); pool = length (t .pool); symbols = length (t .symbols); strings = length (t .strings); names = length (t .names); fileNames = length (t .fileNames); files = length (t .files); lines = length (t .lines) }
+sizes t =
+    record {
+      records = length (t .records);
+      handlers = length (t .handlers);
+      pool = length (t .pool);
+      symbols = length (t .symbols);
+      strings = length
+          (t .strings);
+      names = length (t .names);
+      fileNames = length (t .fileNames);
+      files = length (t .files);
+      lines = length (t .lines);
+    }
 
 -- the numbers of rows that the code counts
 abbrev pub nineOf : Used → format.Nine
-nineOf u = record { records = u .records; handlers = u .handlers; pool = u .pool; symbols = u .symbols; strings = u .strings; names = u .names; fileNames = u .filenames; files = u .files; lines = u .lines }
+nineOf u =
+    record { records = u .records; handlers = u .handlers; pool = u .pool; symbols = u .symbols; strings = u .strings; names = u .names; fileNames = u .filenames; files = u .files; lines = u .lines }
 
 -- the rows used, or the refusal's number
 abbrev pub answerOf : Loaded → Answer format.Nine

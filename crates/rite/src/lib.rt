@@ -21,7 +21,10 @@ pub fn load(
     files: &mut [u32],
     lines: &mut [u32],
 ) -> Loaded
-    ensures { λ r. ⌜ loadedOf r (words (now (records .exit)) (now (handlers .exit)) (now (pool .exit)) (now (symbols .exit)) (now (strings .exit)) (now (names .exit)) (now (filenames .exit)) (now (files .exit)) (now (lines .exit))) ≡ load (now (f .entry)) (sizes (words (now (records .entry)) (now (handlers .entry)) (now (pool .entry)) (now (symbols .entry)) (now (strings .entry)) (now (names .entry)) (now (filenames .entry)) (now (files .entry)) (now (lines .entry)))) ⌝ }
+    ensures { λ r. ⌜ loadedOf r (words (now (records .exit)) (now (handlers .exit)) (now (pool .exit)) (now (symbols .exit)) (now (strings .exit)) (now (names .exit))
+        (now (filenames .exit)) (now (files .exit)) (now (lines .exit)))
+        ≡ load (now (f .entry)) (sizes (words (now (records .entry)) (now (handlers .entry)) (now (pool .entry)) (now (symbols .entry)) (now (strings .entry))
+        (now (names .entry)) (now (filenames .entry)) (now (files .entry)) (now (lines .entry)))) ⌝ }
 {
     clear_all(
         records,

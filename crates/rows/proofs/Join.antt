@@ -52,7 +52,8 @@ module _ {R : Type 0} (words : R → List ℕ) (w : ℕ) (wide : (r : R) → len
       let i : length rs * w ≤ m = le-div-iff-mul-le pos .0 k in
       rw (length-append, length-replicate, flat-length words w wide rs) (omega arith)
 
-  pub put-there : (rs : List R) (x : R) (next : ℕ) → length rs < rowCount m w → putOf next (length rs) (tableOf words m rs) (words x) ≡ out (Next next (length (rs ++ x ∷ []))) (tableOf words m (rs ++ x ∷ []))
+  pub put-there : (rs : List R) (x : R) (next : ℕ) → length rs < rowCount m w
+      → putOf next (length rs) (tableOf words m rs) (words x) ≡ out (Next next (length (rs ++ x ∷ []))) (tableOf words m (rs ++ x ∷ []))
   put-there rs x next h =
       let e : length (rs ++ x ∷ []) ≡ length rs + 1 = length-append rs (x ∷ []) in
       rw (e, ← put-table words m rs x (length rs * w) (flat-length words w wide rs), length-table rs (omega arith), wide x, lt-ltb (length rs) (rowCount m w) h)
@@ -96,7 +97,8 @@ module _ {R : Type 0} (words : R → List ℕ) (w : ℕ) (wide : (r : R) → len
         turn (refused k) q ih = rw (agree at (length rs) (tableOf words m rs), q) (ran-bad rs k _ h refl)
 
     -- a count, then as many rows
-    pub counted-ran : (f : List ℕ) (at : ℕ) (rs : List R) → length rs ≤ rowCount m w → RowsRan rs (counted f p at) (cond (has f at 2) (times row (u16At f at) (at + 2) (length rs) (tableOf words m rs)) (out (Refused 7) (tableOf words m rs)))
+    pub counted-ran : (f : List ℕ) (at : ℕ) (rs : List R) → length rs ≤ rowCount m w
+        → RowsRan rs (counted f p at) (cond (has f at 2) (times row (u16At f at) (at + 2) (length rs) (tableOf words m rs)) (out (Refused 7) (tableOf words m rs)))
     unfolding counted
     counted-ran f at rs h = go (has f at 2) refl
       where

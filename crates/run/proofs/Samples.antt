@@ -36,7 +36,8 @@ abbrev lines : List ℕ
 lines = 0 ∷ 7 ∷ []
 
 pub ready : Ready bytes records handlers lines 2
-unfolding table row rowsFrom opcode operands rest reach layout readable operandsBelow follows below allBelow firstAt firstOf exam16 exam1718 exam19 exam20 rising examineRecord examineAll examinePattern
+unfolding table row rowsFrom opcode operands rest reach layout readable operandsBelow follows below allBelow firstAt firstOf
+    exam16 exam1718 exam19 exam20 rising examineRecord examineAll examinePattern
 ready = record { fits = record { few = omega arith; held = omega arith; small = omega arith; each = one }; passes = refl }
   where
     one : (r : ℕ) → r < 2 → RowFits bytes records handlers lines r

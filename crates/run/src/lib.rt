@@ -65,7 +65,8 @@ fn one_step(
     requires { ⌜ Ready (now file) (now records) (now handlers) (now lines) n ⌝ }
     requires { ⌜ 2 * n ≤ length (now frames) ⌝ }
     requires { ⌜ Held (patternAt (now file) (now records) (now handlers) (now lines) n) (now frames) d (framesOf (now frames) d) ⌝ }
-    ensures { λ r. ⌜ Held (patternAt (now (file .entry)) (now (records .entry)) (now (handlers .entry)) (now (lines .entry)) n) (now (frames .exit)) r (format.oneStep (patternAt (now (file .entry)) (now (records .entry)) (now (handlers .entry)) (now (lines .entry)) n) (framesOf (now (frames .entry)) d) (choiceOf choice)) ⌝ }
+    ensures { λ r. ⌜ Held (patternAt (now (file .entry)) (now (records .entry)) (now (handlers .entry)) (now (lines .entry)) n) (now (frames .exit)) r
+        (format.oneStep (patternAt (now (file .entry)) (now (records .entry)) (now (handlers .entry)) (now (lines .entry)) n) (framesOf (now (frames .entry)) d) (choiceOf choice)) ⌝ }
 {
     if d == 0 {
         return 0;
@@ -181,7 +182,8 @@ pub fn follow_tables(
 ) -> Followed
     requires { ⌜ Ready (now file) (now records) (now handlers) (now lines) n ⌝ }
     requires { ⌜ 2 * n ≤ length (now frames) ⌝ }
-    ensures { λ r. ⌜ out (followedOf r) (now (frames .exit)) ≡ followOut (patternAt (now (file .entry)) (now (records .entry)) (now (handlers .entry)) (now (lines .entry)) n) (now (choices .entry)) (length (now (frames .entry))) ⌝ }
+    ensures { λ r. ⌜ out (followedOf r) (now (frames .exit))
+        ≡ followOut (patternAt (now (file .entry)) (now (records .entry)) (now (handlers .entry)) (now (lines .entry)) n) (now (choices .entry)) (length (now (frames .entry))) ⌝ }
 {
     clear(frames);
     match walk(file, records, handlers, lines, n, choices, frames) {

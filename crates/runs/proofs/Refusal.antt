@@ -14,7 +14,9 @@ use Rattle.format.specs.Insn.{Flow, on, ends, jumps, may, plain, roles, flow, r
 use Rattle.format.specs.Line.{entry, rising}
 use Rattle.format.specs.Tree.{Whole, whole}
 use Rattle.format.specs.Pattern.{Record, Pattern, ilen, recAt, blank, begins, lands, rlens}
-use Rattle.format.specs.Exam.{Below, leads, hasNext, hasTarget, readable, operandsBelow, follows, Bad16, Bad17, Bad18, Bad19, Bad20, Some, Meets, meets15, meets16, meets17, meets18, meets19, meets20, Passes, refuse, first, firstAt, at16, at1718, exam16, exam1718, exam19, exam20, examineRecord, examineAll, examinePattern}
+use Rattle.format.specs.Exam.{Below, leads, hasNext, hasTarget, readable, operandsBelow, follows, Bad16, Bad17, Bad18, Bad19, Bad20, Some, Meets}
+use Rattle.format.specs.Exam.{meets15, meets16, meets17, meets18, meets19, meets20, Passes, refuse, first, firstAt, at16, at1718, exam16, exam1718}
+use Rattle.format.specs.Exam.{exam19, exam20, examineRecord, examineAll, examinePattern}
 use Rattle.runs.proofs.Roles.{all-below, args-fit, Above, some-above}
 use Rattle.format.proofs.Table.{both}
 use Rattle.runs.proofs.Tests.{first-zero, zero-first, refuse-zero, refuse-pass, first-hit, refuse-hit, Hit, firstAt-hit, firstOf-hit}
@@ -72,7 +74,8 @@ no-meet F G n (meets17 s) =
     let b = s .holds in
     b .above (below-of (recAt F (s .rec)) (b .at) (G .each-rec (s .rec) (s .inside) .fit (b .at) (b .starts)) (b .i) (b .given))
 no-meet F G n (meets18 s) = not-lost (recAt F (s .rec) .code) (s .holds .at) (G .each-rec (s .rec) (s .inside) .go (s .holds .at) (s .holds .starts)) (s .holds .lost)
-no-meet F G n (meets19 s) = T-not (begins (recAt F (s .rec) .code) (getD (recAt F (s .rec) .handlers) (s .holds .h) 0)) (s .holds .none-begins) (G .each-rec (s .rec) (s .inside) .caught (s .holds .h) (s .holds .given))
+no-meet F G n (meets19 s) =
+    T-not (begins (recAt F (s .rec) .code) (getD (recAt F (s .rec) .handlers) (s .holds .h) 0)) (s .holds .none-begins) (G .each-rec (s .rec) (s .inside) .caught (s .holds .h) (s .holds .given))
 no-meet F G n (meets20 s) =
     let b = s .holds in
     omega (arith, b .falls, mono (recAt F (s .rec) .lines) (G .each-rec (s .rec) (s .inside) .rise) (b .i) (suc (b .i)) (omega arith) (b .given))

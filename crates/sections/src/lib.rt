@@ -137,7 +137,8 @@ pub fn irep_at(
     p: Progress,
 ) -> Section
     requires { ⌜ (at ≤ length (now f)) × (length (now f) ≤ 65536) ⌝ }
-    ensures { λ r. ⌜ irepOut r (now (records .exit)) (now (handlers .exit)) (now (pool .exit)) (now (symbols .exit)) ≡ irepOutOf (now (f .entry)) at limit (now (records .entry)) (now (handlers .entry)) (now (pool .entry)) (now (symbols .entry)) p ⌝ }
+    ensures { λ r. ⌜ irepOut r (now (records .exit)) (now (handlers .exit)) (now (pool .exit)) (now (symbols .exit))
+        ≡ irepOutOf (now (f .entry)) at limit (now (records .entry)) (now (handlers .entry)) (now (pool .entry)) (now (symbols .entry)) p ⌝ }
 {
     if p.irep {
         return Section::Refused(6);
@@ -198,7 +199,8 @@ pub fn dbg_at(
     p: Progress,
 ) -> Section
     requires { ⌜ (at ≤ length (now f)) × (length (now f) ≤ 65536) ⌝ }
-    ensures { λ r. ⌜ dbgOut r (now (records .exit)) (now (filenames .exit)) (now (files .exit)) (now (lines .exit)) ≡ dbgOutOf (now (f .entry)) at (now (records .entry)) (now (filenames .entry)) (now (files .entry)) (now (lines .entry)) p ⌝ }
+    ensures { λ r. ⌜ dbgOut r (now (records .exit)) (now (filenames .exit)) (now (files .exit)) (now (lines .exit))
+        ≡ dbgOutOf (now (f .entry)) at (now (records .entry)) (now (filenames .entry)) (now (files .entry)) (now (lines .entry)) p ⌝ }
 {
     if !p.irep {
         return Section::Refused(6);

@@ -14,7 +14,10 @@ pub fn clear_all(
     files: &mut [u32],
     lines: &mut [u32],
 )
-    ensures { λ _. ⌜ Zeros (words (now (records .entry)) (now (handlers .entry)) (now (pool .entry)) (now (symbols .entry)) (now (strings .entry)) (now (names .entry)) (now (filenames .entry)) (now (files .entry)) (now (lines .entry))) (words (now (records .exit)) (now (handlers .exit)) (now (pool .exit)) (now (symbols .exit)) (now (strings .exit)) (now (names .exit)) (now (filenames .exit)) (now (files .exit)) (now (lines .exit))) ⌝ }
+    ensures { λ _. ⌜ Zeros (words (now (records .entry)) (now (handlers .entry)) (now (pool .entry)) (now (symbols .entry)) (now (strings .entry)) (now (names .entry))
+        (now (filenames .entry)) (now (files .entry)) (now (lines .entry)))
+        (words (now (records .exit)) (now (handlers .exit)) (now (pool .exit)) (now (symbols .exit)) (now (strings .exit)) (now (names .exit)) (now (filenames .exit))
+        (now (files .exit)) (now (lines .exit))) ⌝ }
 {
     clear(records);
     clear(handlers);

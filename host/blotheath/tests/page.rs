@@ -273,8 +273,9 @@ fn the_checklist_tells_how_far_examination_went() {
             .collect::<Vec<String>>()
     };
     assert_eq!(states(&sample_bytes()), ["holds"; 7]);
-    let up_to = |last: u32| format!("holds in records 0 to {last}; not looked at behind them");
-    let steps = "holds in records 0 to 3, and in record 4 up to offset 30; not looked at behind it";
+    let up_to = |last: u32| format!("holds in records 0 to {last}; not looked at further on");
+    let steps =
+        "holds in records 0 to 3, and in record 4 up to offset 30; not looked at further on";
     assert_eq!(
         states(&sample_with(595 + 33, 1)),
         [

@@ -6,14 +6,8 @@ use borrow.Author.Needs.{needs}
 use Rattle.blotheath.proofs.blotheath_debug_file.Statement.{statement}
 use Rattle.blotheath.proofs.blotheath_debug_file.Tie as tie
 
-debug-file-requires : tie.Need-debug-file-requires
-debug-file-requires c κs = search needs
-
-debug-file-requires-2 : tie.Need-debug-file-requires-2
-debug-file-requires-2 c κs = search needs
-
 returns : tie.Need-returns
 returns c = c .debug-file2 .ensures ∙ ap debugFileIs (c .before .debug-file .ensures)
 
 pub blotheath-debug-file-spec : {M : Type 1} → statement M
-blotheath-debug-file-spec = tie.close (tie.spec debug-file-requires debug-file-requires-2 returns)
+blotheath-debug-file-spec = tie.close (tie.spec (λ c κs. search needs) (λ c κs. search needs) returns)

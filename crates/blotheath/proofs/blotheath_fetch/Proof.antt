@@ -6,14 +6,8 @@ use borrow.Author.Needs.{needs}
 use Rattle.blotheath.proofs.blotheath_fetch.Statement.{statement}
 use Rattle.blotheath.proofs.blotheath_fetch.Tie as tie
 
-fetch-requires : tie.Need-fetch-requires
-fetch-requires c κs = search needs
-
-fetched-requires : tie.Need-fetched-requires
-fetched-requires c κs = search needs
-
 returns : tie.Need-returns
 returns c = c .fetched .ensures ∙ ap fetchedIs (c .before .fetch .ensures)
 
 pub blotheath-fetch-spec : {M : Type 1} → statement M
-blotheath-fetch-spec = tie.close (tie.spec fetch-requires fetched-requires returns)
+blotheath-fetch-spec = tie.close (tie.spec (λ c κs. search needs) (λ c κs. search needs) returns)

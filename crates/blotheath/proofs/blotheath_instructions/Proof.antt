@@ -6,14 +6,8 @@ use borrow.Author.Needs.{needs}
 use Rattle.blotheath.proofs.blotheath_instructions.Statement.{statement}
 use Rattle.blotheath.proofs.blotheath_instructions.Tie as tie
 
-instructions-requires : tie.Need-instructions-requires
-instructions-requires c κs = search needs
-
-text-requires : tie.Need-text-requires
-text-requires c κs = search needs
-
 returns : tie.Need-returns
 returns c = c .text .ensures ∙ ap textIs (c .before .instructions .ensures)
 
 pub blotheath-instructions-spec : {M : Type 1} → statement M
-blotheath-instructions-spec = tie.close (tie.spec instructions-requires text-requires returns)
+blotheath-instructions-spec = tie.close (tie.spec (λ c κs. search needs) (λ c κs. search needs) returns)

@@ -6,14 +6,8 @@ use borrow.Author.Needs.{needs}
 use Rattle.blotheath.proofs.blotheath_line_at.Statement.{statement}
 use Rattle.blotheath.proofs.blotheath_line_at.Tie as tie
 
-line-at-requires : tie.Need-line-at-requires
-line-at-requires c κs = search needs
-
-line-found-requires : tie.Need-line-found-requires
-line-found-requires c κs = search needs
-
 returns : tie.Need-returns
 returns c = c .line-found .ensures ∙ ap lineIs (c .before .line-at .ensures)
 
 pub blotheath-line-at-spec : {M : Type 1} → statement M
-blotheath-line-at-spec = tie.close (tie.spec line-at-requires line-found-requires returns)
+blotheath-line-at-spec = tie.close (tie.spec (λ c κs. search needs) (λ c κs. search needs) returns)

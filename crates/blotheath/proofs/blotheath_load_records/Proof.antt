@@ -216,7 +216,8 @@ module _ {M : Type 1} (𝓤 : URA M) (H : Heap 𝓤) (A : Atoms 𝓤) (W : Given
   abbrev κs-load : ℕ → Lfts 10
   κs-load ν = (κ₀, (ν ∷ [], (κ₂, (κ₃, (κ₄, (κ₅, (κ₆, (κ₇, (κ₈, (κ₉, tt))))))))))
 
-  abbrev a-load : GName → RefT (List ℕ) × (RefT (List ℕ) × (RefT (List ℕ) × (RefT (List ℕ) × (RefT (List ℕ) × (RefT (List ℕ) × (RefT (List ℕ) × (RefT (List ℕ) × (RefT (List ℕ) × (RefT (List ℕ) × Unit {0})))))))))
+  abbrev a-load : GName → RefT (List ℕ) × (RefT (List ℕ) × (RefT (List ℕ) × (RefT (List ℕ) × (RefT (List ℕ)
+      × (RefT (List ℕ) × (RefT (List ℕ) × (RefT (List ℕ) × (RefT (List ℕ) × (RefT (List ℕ) × Unit {0})))))))))
   a-load δ = (d, (x δ ws, (t₂, (t₃, (t₄, (t₅, (t₆, (t₇, (t₈, (t₉, tt))))))))))
 
   abbrev to-load : ℕ → GName → Load 𝓤 H A mem run .Ghost

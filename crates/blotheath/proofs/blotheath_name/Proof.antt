@@ -6,14 +6,8 @@ use borrow.Author.Needs.{needs}
 use Rattle.blotheath.proofs.blotheath_name.Statement.{statement}
 use Rattle.blotheath.proofs.blotheath_name.Tie as tie
 
-name-requires : tie.Need-name-requires
-name-requires c κs = search needs
-
-name-requires-2 : tie.Need-name-requires-2
-name-requires-2 c κs = search needs
-
 returns : tie.Need-returns
 returns c = c .name2 .ensures ∙ ap nameIs (c .before .name .ensures)
 
 pub blotheath-name-spec : {M : Type 1} → statement M
-blotheath-name-spec = tie.close (tie.spec name-requires name-requires-2 returns)
+blotheath-name-spec = tie.close (tie.spec (λ c κs. search needs) (λ c κs. search needs) returns)

@@ -6,14 +6,8 @@ use borrow.Author.Needs.{needs}
 use Rattle.blotheath.proofs.blotheath_pool.Statement.{statement}
 use Rattle.blotheath.proofs.blotheath_pool.Tie as tie
 
-pool-requires : tie.Need-pool-requires
-pool-requires c κs = search needs
-
-constant-requires : tie.Need-constant-requires
-constant-requires c κs = search needs
-
 returns : tie.Need-returns
 returns c = c .constant .ensures ∙ ap constantIs (c .before .pool .ensures)
 
 pub blotheath-pool-spec : {M : Type 1} → statement M
-blotheath-pool-spec = tie.close (tie.spec pool-requires constant-requires returns)
+blotheath-pool-spec = tie.close (tie.spec (λ c κs. search needs) (λ c κs. search needs) returns)

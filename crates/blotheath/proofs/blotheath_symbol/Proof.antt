@@ -6,14 +6,8 @@ use borrow.Author.Needs.{needs}
 use Rattle.blotheath.proofs.blotheath_symbol.Statement.{statement}
 use Rattle.blotheath.proofs.blotheath_symbol.Tie as tie
 
-symbol-requires : tie.Need-symbol-requires
-symbol-requires c κs = search needs
-
-text-requires : tie.Need-text-requires
-text-requires c κs = search needs
-
 returns : tie.Need-returns
 returns c = c .text .ensures ∙ ap textIs (c .before .symbol .ensures)
 
 pub blotheath-symbol-spec : {M : Type 1} → statement M
-blotheath-symbol-spec = tie.close (tie.spec symbol-requires text-requires returns)
+blotheath-symbol-spec = tie.close (tie.spec (λ c κs. search needs) (λ c κs. search needs) returns)

@@ -5,15 +5,6 @@ use borrow.Author.Needs.{needs}
 use Rattle.boundary_lookups.proofs.text.Statement.{statement}
 use Rattle.boundary_lookups.proofs.text.Tie as tie
 
-enum-known-a : tie.Need-enum-known-a
-enum-known-a c = search needs
-
-enum-known-a-2 : tie.Need-enum-known-a-2
-enum-known-a-2 c = search needs
-
-cast-t6 : tie.Need-cast-t6
-cast-t6 c = search needs
-
 returns : tie.Need-returns
 returns c = rw (c .before .a .given .1)
 
@@ -21,4 +12,4 @@ returns-2 : tie.Need-returns-2
 returns-2 c = rw (c .before .a2 .given .1)
 
 pub text-spec : {M : Type 1} → statement M
-text-spec = tie.close (tie.spec enum-known-a enum-known-a-2 cast-t6 returns returns-2)
+text-spec = tie.close (tie.spec (λ c. search needs) (λ c. search needs) (λ c. search needs) returns returns-2)

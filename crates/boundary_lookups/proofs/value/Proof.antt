@@ -8,18 +8,6 @@ use borrow.Author.Needs.{needs}
 use Rattle.boundary_lookups.proofs.value.Statement.{statement}
 use Rattle.boundary_lookups.proofs.value.Tie as tie
 
-enum-known-v : tie.Need-enum-known-v
-enum-known-v c = search needs
-
-enum-known-v-2 : tie.Need-enum-known-v-2
-enum-known-v-2 c = search needs
-
-enum-known-v-3 : tie.Need-enum-known-v-3
-enum-known-v-3 c = search needs
-
-enum-known-v-4 : tie.Need-enum-known-v-4
-enum-known-v-4 c = search needs
-
 returns : tie.Need-returns
 returns c = rw (c .before .v .given .1)
 
@@ -40,10 +28,10 @@ pub value-spec : {M : Type 1} → statement M
 value-spec =
     tie.close
     (tie.spec
-    enum-known-v
-    enum-known-v-2
-    enum-known-v-3
-    enum-known-v-4
+    (λ c. search needs)
+    (λ c. search needs)
+    (λ c. search needs)
+    (λ c. search needs)
     returns
     returns-2
     returns-3

@@ -5,18 +5,6 @@ use borrow.Author.Needs.{needs}
 use Rattle.boundary_steps.proofs.fetched.Statement.{statement}
 use Rattle.boundary_steps.proofs.fetched.Tie as tie
 
-enum-known-a : tie.Need-enum-known-a
-enum-known-a c = search needs
-
-instruction-requires : tie.Need-instruction-requires
-instruction-requires c κs = search needs
-
-enum-known-a-2 : tie.Need-enum-known-a-2
-enum-known-a-2 c = search needs
-
-cast-t5 : tie.Need-cast-t5
-cast-t5 c = search needs
-
 returns : tie.Need-returns
 returns c = rw (c .before .before .a .given .1) (c .instruction .ensures)
 
@@ -25,4 +13,4 @@ returns-2 c = rw (c .before .a2 .given .1)
 
 pub fetched-spec : {M : Type 1} → statement M
 fetched-spec =
-    tie.close (tie.spec enum-known-a instruction-requires enum-known-a-2 cast-t5 returns returns-2)
+    tie.close (tie.spec (λ c. search needs) (λ c κs. search needs) (λ c. search needs) (λ c. search needs) returns returns-2)

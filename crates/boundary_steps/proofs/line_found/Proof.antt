@@ -5,12 +5,6 @@ use borrow.Author.Needs.{needs}
 use Rattle.boundary_steps.proofs.line_found.Statement.{statement}
 use Rattle.boundary_steps.proofs.line_found.Tie as tie
 
-enum-known-l : tie.Need-enum-known-l
-enum-known-l c = search needs
-
-enum-told : tie.Need-enum-told
-enum-told c = search needs
-
 returns : tie.Need-returns
 returns c = rw (c .before .l .given .1)
 
@@ -18,4 +12,4 @@ returns-2 : tie.Need-returns-2
 returns-2 c = rw (c .enum-told .given .1)
 
 pub line-found-spec : {M : Type 1} → statement M
-line-found-spec = tie.close (tie.spec enum-known-l enum-told returns returns-2)
+line-found-spec = tie.close (tie.spec (λ c. search needs) (λ c. search needs) returns returns-2)

@@ -14,10 +14,20 @@ returns : tie.Need-returns
 returns c = rw (ne-eqb (c .before .before .args .len) 8 (c .if1 .taken))
 
 returns-2 : tie.Need-returns-2
-returns-2 c = number-read float (c .before .before .before .before .before .before .args .f .now) (c .before .before .before .before .before .before .args .place) (c .before .before .before .before .before .before .args .len) 8 (float64At (c .before .before .before .before .before .before .args .f .now) (c .before .before .before .before .before .before .args .place)) (search needs) (c .before .before .before .before .if1 .left) _ (ap float64Of (sym (c .before .e .given .1)) ∙ c .before .before .before .f64-at .ensures)
+returns-2 c =
+    let c3 = c .before .before .before in
+    let c4 = c3 .before in
+    let c6 = c4 .before .before in
+    let a = c6 .args in
+    number-read float (a .f .now) (a .place) (a .len) 8 (float64At (a .f .now) (a .place)) (search needs) (c4 .if1 .left) _ (ap float64Of (sym (c .before .e .given .1)) ∙ c3 .f64-at .ensures)
 
 returns-3 : tie.Need-returns-3
-returns-3 c = number-read float (c .before .before .before .before .before .before .args .f .now) (c .before .before .before .before .before .before .args .place) (c .before .before .before .before .before .before .args .len) 8 (float64At (c .before .before .before .before .before .before .args .f .now) (c .before .before .before .before .before .before .args .place)) (search needs) (c .before .before .before .before .if1 .left) _ (ap float64Of (sym (c .before .x .given .1)) ∙ c .before .before .before .f64-at .ensures)
+returns-3 c =
+    let c3 = c .before .before .before in
+    let c4 = c3 .before in
+    let c6 = c4 .before .before in
+    let a = c6 .args in
+    number-read float (a .f .now) (a .place) (a .len) 8 (float64At (a .f .now) (a .place)) (search needs) (c4 .if1 .left) _ (ap float64Of (sym (c .before .x .given .1)) ∙ c3 .f64-at .ensures)
 
 pub float64-spec : {M : Type 1} → statement M
 float64-spec =

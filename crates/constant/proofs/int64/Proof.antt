@@ -17,12 +17,23 @@ returns : tie.Need-returns
 returns c = rw (ne-eqb (c .before .before .args .len) 8 (c .if1 .taken))
 
 returns-2 : tie.Need-returns-2
-returns-2 c = number-read int (c .before .before .before .before .before .before .args .f .now) (c .before .before .before .before .before .before .args .place) (c .before .before .before .before .before .before .args .len) 8 (int64At (c .before .before .before .before .before .before .args .f .now) (c .before .before .before .before .before .before .args .place)) (search needs) (c .before .before .before .before .if1 .left) _ (ap int64Of (sym (c .before .e .given .1)) ∙ c .before .before .before .i64-at .ensures)
+returns-2 c =
+    let c3 = c .before .before .before in
+    let c4 = c3 .before in
+    let c6 = c4 .before .before in
+    let a = c6 .args in
+    number-read int (a .f .now) (a .place) (a .len) 8 (int64At (a .f .now) (a .place)) (search needs) (c4 .if1 .left) _ (ap int64Of (sym (c .before .e .given .1)) ∙ c3 .i64-at .ensures)
 
 returns-3 : tie.Need-returns-3
-returns-3 c = let n = c .before .n .given .0 .0 in
+returns-3 c =
+    let c3 = c .before .before .before in
+    let c4 = c3 .before in
+    let c6 = c4 .before .before in
+    let a = c6 .args in
+    let n = c .before .n .given .0 .0 in
     let fits : SFits w64 n = search needs in
-    ap (λ z. ok (int z)) (toZ-ofZ w64 n fits) ∙ number-read int (c .before .before .before .before .before .before .args .f .now) (c .before .before .before .before .before .before .args .place) (c .before .before .before .before .before .before .args .len) 8 (int64At (c .before .before .before .before .before .before .args .f .now) (c .before .before .before .before .before .before .args .place)) (search needs) (c .before .before .before .before .if1 .left) _ (ap int64Of (sym (c .before .n .given .1)) ∙ c .before .before .before .i64-at .ensures)
+    ap (λ z. ok (int z)) (toZ-ofZ w64 n fits)
+    ∙ number-read int (a .f .now) (a .place) (a .len) 8 (int64At (a .f .now) (a .place)) (search needs) (c4 .if1 .left) _ (ap int64Of (sym (c .before .n .given .1)) ∙ c3 .i64-at .ensures)
 
 pub int64-spec : {M : Type 1} → statement M
 int64-spec =

@@ -46,76 +46,134 @@ began : (t : ℕ) (c : lts.After-known-told2 (claims t) (at t) itself.Post Inv-l
     let v = c .before .a1 .given .0 in
     let call = c .before .before .before .before .before .before .before .before .before .read-record in
     (v .1 .0 ≡ a .rec + 1)
-    × (walkOf (a .s .now) (a .names) (a .count) 1 (state (a .rec) (a .records .now) (spot (a .at) (a .used) (tabs (a .files .now) (a .lines .now)))) ≡ walkOf (a .s .now) (a .names) (a .count) (getD (a .records .now) (a .rec * 19 + 3) 0) (state (v .1 .0) (call .last .1 .1 .1 .1 .0) (spot (v .0) (v .1 .1 .0) (tabs (call .last .1 .1 .1 .1 .1 .0) (call .last .1 .1 .1 .1 .1 .1 .0)))))
+    × (walkOf (a .s .now) (a .names) (a .count) 1 (state (a .rec) (a .records .now) (spot (a .at) (a .used) (tabs (a .files .now) (a .lines .now)))) ≡ walkOf (a .s .now)
+    (a .names) (a .count) (getD (a .records .now) (a .rec * 19 + 3) 0)
+    (state (v .1 .0) (call .last .1 .1 .1 .1 .0) (spot (v .0) (v .1 .1 .0) (tabs (call .last .1 .1 .1 .1 .1 .0) (call .last .1 .1 .1 .1 .1 .1 .0)))))
 began t c =
-    let a = c .before .before .before .before .before .before .before .before .before .before .before .before .before .before .before .before .before .before .before .before .args in
+    let c9 = c .before .before .before .before .before .before .before .before .before in
+    let c14 = c9 .before .before .before .before .before in
+    let c15 = c14 .before in
+    let c20 = c15 .before .before .before .before .before in
+    let a = c20 .args in
     let v = c .before .a1 .given .0 in
-    let call = c .before .before .before .before .before .before .before .before .before .read-record in
+    let call = c9 .read-record in
     let st = (state (a .rec) (a .records .now) (spot (a .at) (a .used) (tabs (a .files .now) (a .lines .now)))) in
     let o = walkRun (Next (v .0) (v .1 .0) (v .1 .1 .0)) (call .last .1 .1 .1 .1 .0) (call .last .1 .1 .1 .1 .1 .0) (call .last .1 .1 .1 .1 .1 .1 .0) in
-    let e : o ≡ stepOf (a .s .now) (a .names) st = ap (λ r. walkRun r (call .last .1 .1 .1 .1 .0) (call .last .1 .1 .1 .1 .1 .0) (call .last .1 .1 .1 .1 .1 .1 .0)) (sym (c .before .a1 .given .1)) ∙ call .ensures in
-    (step-next (a .s .now) (a .names) st _ (sym e), visit-one (a .s .now) (a .names) (a .count) st o (sym (c .before .before .before .before .before .before .before .before .before .before .before .before .before .before .before .reads-nothing .ensures) ∙ c .before .before .before .before .before .before .before .before .before .before .before .before .before .before .if1 .left) e)
+    let e : o ≡ stepOf (a .s .now) (a .names) st =
+    ap (λ r. walkRun r (call .last .1 .1 .1 .1 .0) (call .last .1 .1 .1 .1 .1 .0) (call .last .1 .1 .1 .1 .1 .1 .0)) (sym (c .before .a1 .given .1)) ∙ call .ensures in
+    (step-next (a .s .now) (a .names) st _ (sym e), visit-one (a .s .now) (a .names) (a .count) st o (sym (c15 .reads-nothing .ensures) ∙ c14 .if1 .left) e)
 
 returns : (t : ℕ) → lts.Need-returns (claims t) (at t) itself.Post Inv-loop μ-loop
-returns t c = let a = c .before .before .before .before .before .before .args in sym (visit-none (a .s .now) (a .names) (a .count) 1 (state (a .rec) (a .records .now) (spot (a .at) (a .used) (tabs (a .files .now) (a .lines .now)))) (sym (c .before .reads-nothing .ensures) ∙ c .if1 .taken))
+returns t c =
+    let c6 = c .before .before .before .before .before .before in
+    let a = c6 .args in
+    sym (visit-none (a .s .now) (a .names) (a .count) 1 (state (a .rec) (a .records .now) (spot (a .at) (a .used) (tabs (a .files .now) (a .lines .now))))
+    (sym (c .before .reads-nothing .ensures) ∙ c .if1 .taken))
 
 mul-rlen : (t : ℕ) → lts.Need-mul-rlen (claims t) (at t) itself.Post Inv-loop μ-loop
-mul-rlen t c = let h = in-records (c .before .before .before .before .before .before .args .s .now) (c .before .before .before .before .before .before .args .names) (c .before .before .before .before .before .before .args .count) (c .before .before .before .before .before .before .args .at) (c .before .before .before .before .before .before .args .rec) (sym (c .before .reads-nothing .ensures) ∙ c .if1 .left) in search needs
+mul-rlen t c =
+    let c6 = c .before .before .before .before .before .before in
+    let a = c6 .args in
+    let h = in-records (a .s .now) (a .names) (a .count) (a .at) (a .rec) (sym (c .before .reads-nothing .ensures) ∙ c .if1 .left) in search needs
 
 add-rlen : (t : ℕ) → lts.Need-add-rlen (claims t) (at t) itself.Post Inv-loop μ-loop
-add-rlen t c = let h = in-records (c .before .before .before .before .before .before .args .s .now) (c .before .before .before .before .before .before .args .names) (c .before .before .before .before .before .before .args .count) (c .before .before .before .before .before .before .args .at) (c .before .before .before .before .before .before .args .rec) (sym (c .before .reads-nothing .ensures) ∙ c .if1 .left) in search needs
+add-rlen t c =
+    let c6 = c .before .before .before .before .before .before in
+    let a = c6 .args in
+    let h = in-records (a .s .now) (a .names) (a .count) (a .at) (a .rec) (sym (c .before .reads-nothing .ensures) ∙ c .if1 .left) in search needs
 
 mul-rlen-2 : (t : ℕ) → lts.Need-mul-rlen-2 (claims t) (at t) itself.Post Inv-loop μ-loop
-mul-rlen-2 t c = let h = in-records (c .before .before .before .before .before .before .args .s .now) (c .before .before .before .before .before .before .args .names) (c .before .before .before .before .before .before .args .count) (c .before .before .before .before .before .before .args .at) (c .before .before .before .before .before .before .args .rec) (sym (c .before .reads-nothing .ensures) ∙ c .if1 .left) in search needs
+mul-rlen-2 t c =
+    let c6 = c .before .before .before .before .before .before in
+    let a = c6 .args in
+    let h = in-records (a .s .now) (a .names) (a .count) (a .at) (a .rec) (sym (c .before .reads-nothing .ensures) ∙ c .if1 .left) in search needs
 
 slice-read-rlen : (t : ℕ) → lts.Need-slice-read-rlen (claims t) (at t) itself.Post Inv-loop μ-loop
-slice-read-rlen t c = let h = in-records (c .before .before .before .before .before .before .before .args .s .now) (c .before .before .before .before .before .before .before .args .names) (c .before .before .before .before .before .before .before .args .count) (c .before .before .before .before .before .before .before .args .at) (c .before .before .before .before .before .before .before .args .rec) (sym (c .before .before .reads-nothing .ensures) ∙ c .before .if1 .left) in search needs
+slice-read-rlen t c =
+    let c2 = c .before .before in
+    let c7 = c2 .before .before .before .before .before in
+    let a = c7 .args in
+    let h = in-records (a .s .now) (a .names) (a .count) (a .at) (a .rec) (sym (c2 .reads-nothing .ensures) ∙ c .before .if1 .left) in search needs
 
 read-record-requires : (t : ℕ) → lts.Need-read-record-requires (claims t) (at t) itself.Post Inv-loop μ-loop
-read-record-requires t c κs = let h = in-records (c .before .before .before .before .before .before .before .before .before .before .args .s .now) (c .before .before .before .before .before .before .before .before .before .before .args .names) (c .before .before .before .before .before .before .before .before .before .before .args .count) (c .before .before .before .before .before .before .before .before .before .before .args .at) (c .before .before .before .before .before .before .before .before .before .before .args .rec) (sym (c .before .before .before .before .before .reads-nothing .ensures) ∙ c .before .before .before .before .if1 .left) in search needs
+read-record-requires t c κs =
+    let c4 = c .before .before .before .before in
+    let c5 = c4 .before in
+    let c10 = c5 .before .before .before .before .before in
+    let a = c10 .args in
+    let h = in-records (a .s .now) (a .names) (a .count) (a .at) (a .rec) (sym (c5 .reads-nothing .ensures) ∙ c4 .if1 .left) in search needs
 
 loop-holds : (t : ℕ) → lts.Need-loop-holds (claims t) (at t) itself.Post Inv-loop μ-loop
 loop-holds t c = let n = began t c .0 in (refl, refl, refl, omega arith, omega arith, rw sub-zero)
 
 returns-2 : (t : ℕ) → lts.Need-returns-2 (claims t) (at t) itself.Post Inv-loop μ-loop
 returns-2 t c =
-    let a = c .before .before .before .before .before .before .before .before .before .before .before .before .before .before .before .before .before .before .before .before .before .before .before .before .args in
-    let l = c .before .before .before .loop in
-    sym (began t (c .before .before .before .before) .1 ∙ l .inv .5
-    ∙ visit-none (a .s .now) (a .names) (a .count) ((getD (a .records .now) (a .rec * 19 + 3) 0) - l .child) (state (l .r) (l .records) (spot (l .a) (l .u) (tabs (l .files) (l .lines)))) (sym (c .before .reads-nothing2 .ensures) ∙ c .if2 .taken))
+    let c3 = c .before .before .before in
+    let c4 = c3 .before in
+    let c24 = c4 .before .before .before .before .before .before .before .before .before .before .before .before .before .before .before .before .before .before .before .before in
+    let a = c24 .args in
+    let l = c3 .loop in
+    sym (began t (c4) .1 ∙ l .inv .5
+    ∙ visit-none (a .s .now) (a .names) (a .count) ((getD (a .records .now) (a .rec * 19 + 3) 0) - l .child)
+    (state (l .r) (l .records) (spot (l .a) (l .u) (tabs (l .files) (l .lines)))) (sym (c .before .reads-nothing2 .ensures) ∙ c .if2 .taken))
 
 read-debug-record-requires : (t : ℕ) → lts.Need-read-debug-record-requires (claims t) (at t) itself.Post Inv-loop μ-loop
 read-debug-record-requires t c κs =
-    let p = c .before .before .before .before .before .before .before .before .before .before .before .before .before .before .before .before .before .before .before .before .before .before .before .before .before .before .before .pre in
-    let i = c .before .before .before .before .before .before .loop .inv in
-    let k = c .before .before .before .before .before .before .before .before .before .before .before .before .before .before .before .before .read-record .kept in
-    let h = in-records (c .before .before .before .before .before .before .before .before .before .before .before .before .before .before .before .before .before .before .before .before .before .before .before .before .before .before .before .args .s .now) (c .before .before .before .before .before .before .before .before .before .before .before .before .before .before .before .before .before .before .before .before .before .before .before .before .before .before .before .args .names) (c .before .before .before .before .before .before .before .before .before .before .before .before .before .before .before .before .before .before .before .before .before .before .before .before .before .before .before .args .count) (c .before .before .before .before .before .before .before .before .before .before .before .before .before .before .before .before .before .before .before .before .before .before .before .before .before .before .before .args .at) (c .before .before .before .before .before .before .before .before .before .before .before .before .before .before .before .before .before .before .before .before .before .before .before .before .before .before .before .args .rec) (sym (c .before .before .before .before .before .before .before .before .before .before .before .before .before .before .before .before .before .before .before .before .before .before .reads-nothing .ensures) ∙ c .before .before .before .before .before .before .before .before .before .before .before .before .before .before .before .before .before .before .before .before .before .if1 .left) in
+    let c6 = c .before .before .before .before .before .before in
+    let c16 = c6 .before .before .before .before .before .before .before .before .before .before in
+    let c21 = c16 .before .before .before .before .before in
+    let c22 = c21 .before in
+    let c27 = c22 .before .before .before .before .before in
+    let a = c27 .args in
+    let p = c27 .pre in
+    let i = c6 .loop .inv in
+    let k = c16 .read-record .kept in
+    let h = in-records (a .s .now) (a .names) (a .count) (a .at) (a .rec) (sym (c22 .reads-nothing .ensures) ∙ c21 .if1 .left) in
     (omega (arith, p .0, i .4), omega (arith, p .1, i .0, k .1 .1 .1 .1 .0))
 
 returns-3 : (t : ℕ) → lts.Need-returns-3 (claims t) (at t) itself.Post Inv-loop μ-loop
 returns-3 t c =
-    let call = c .before .before .before .before .before .before .before .before .before .read-debug-record in
-    let a = c .before .before .before .before .before .before .before .before .before .before .before .before .before .before .before .before .before .before .before .before .before .before .before .before .before .before .before .before .before .before .before .before .before .before .before .before .before .args in
-    let l = c .before .before .before .before .before .before .before .before .before .before .before .before .before .before .before .before .loop in
-    sym (began t (c .before .before .before .before .before .before .before .before .before .before .before .before .before .before .before .before .before) .1 ∙ l .inv .5
+    let c9 = c .before .before .before .before .before .before .before .before .before in
+    let c15 = c9 .before .before .before .before .before .before in
+    let c16 = c15 .before in
+    let c17 = c16 .before in
+    let c37 = c17 .before .before .before .before .before .before .before .before .before .before .before .before .before .before .before .before .before .before .before .before in
+    let call = c9 .read-debug-record in
+    let a = c37 .args in
+    let l = c16 .loop in
+    sym (began t (c17) .1 ∙ l .inv .5
     ∙ visit-child (a .s .now) (a .names) (a .count) (getD (a .records .now) (a .rec * 19 + 3) 0) (l .child) (state (l .r) (l .records) (spot (l .a) (l .u) (tabs (l .files) (l .lines))))
-    (walkRun (Refused (c .before .k2 .given .0 .0)) (call .last .1 .1 .1 .1 .1 .0) (call .last .1 .1 .1 .1 .1 .1 .0) (call .last .1 .1 .1 .1 .1 .1 .1 .0)) (c .before .before .before .before .before .before .before .before .before .before .before .before .before .before .before .loop-test .taken)
+    (walkRun (Refused (c .before .k2 .given .0 .0)) (call .last .1 .1 .1 .1 .1 .0) (call .last .1 .1 .1 .1 .1 .1 .0) (call .last .1 .1 .1 .1 .1 .1 .1 .0)) (c15 .loop-test .taken)
     (ap (λ r. walkRun r (call .last .1 .1 .1 .1 .1 .0) (call .last .1 .1 .1 .1 .1 .1 .0) (call .last .1 .1 .1 .1 .1 .1 .1 .0)) (sym (c .before .k2 .given .1)) ∙ call .ensures))
 
 add-child : (t : ℕ) → lts.Need-add-child (claims t) (at t) itself.Post Inv-loop μ-loop
-add-child t c = omega (arith, c .before .before .before .before .before .before .before .before .before .before .before .before .before .before .before .before .before .before .before .before .before .before .before .before .before .before .before .before .before .before .slice-known4 .given (c .before .before .before .before .before .before .before .before .before .before .before .before .before .before .before .before .before .before .before .before .before .before .before .before .before .before .before .before .before .before .before .before .before .before .before .before .before .args .rec * 19 + 3))
+add-child t c =
+    omega (
+      arith,
+      c .before .before .before .before .before .before .before .before .before .before .before .before .before .before .before
+          .before .before .before .before .before .before .before .before .before .before .before .before .before .before .before .slice-known4 .given
+          (c .before .before .before .before .before .before .before .before .before .before .before .before .before .before .before
+          .before .before .before .before .before .before .before .before .before .before .before .before .before .before .before
+          .before .before .before .before .before .before .before .args .rec * 19 + 3),
+    )
 
 loop-again : (t : ℕ) → lts.Need-loop-again (claims t) (at t) itself.Post Inv-loop μ-loop
 loop-again t c =
-    let call = c .before .before .before .before .before .before .before .before .before .read-debug-record in
-    let a = c .before .before .before .before .before .before .before .before .before .before .before .before .before .before .before .before .before .before .before .before .before .before .before .before .before .before .before .before .before .before .before .before .before .before .before .before .before .args in
-    let l = c .before .before .before .before .before .before .before .before .before .before .before .before .before .before .before .before .loop in
+    let c9 = c .before .before .before .before .before .before .before .before .before in
+    let c15 = c9 .before .before .before .before .before .before in
+    let c16 = c15 .before in
+    let c36 = c16 .before .before .before .before .before .before .before .before .before .before .before .before .before .before .before .before .before .before .before .before in
+    let c37 = c36 .before in
+    let call = c9 .read-debug-record in
+    let a = c37 .args in
+    let l = c16 .loop in
     let v = c .before .a2 .given .0 in
     let st = (state (l .r) (l .records) (spot (l .a) (l .u) (tabs (l .files) (l .lines)))) in
     let o = walkRun (Next (v .0) (v .1 .0) (v .1 .1 .0)) (call .last .1 .1 .1 .1 .1 .0) (call .last .1 .1 .1 .1 .1 .1 .0) (call .last .1 .1 .1 .1 .1 .1 .1 .0) in
-    let e : o ≡ walkOf (a .s .now) (a .names) (a .count) 1 st = ap (λ r. walkRun r (call .last .1 .1 .1 .1 .1 .0) (call .last .1 .1 .1 .1 .1 .1 .0) (call .last .1 .1 .1 .1 .1 .1 .1 .0)) (sym (c .before .a2 .given .1)) ∙ call .ensures in
+    let e : o ≡ walkOf (a .s .now) (a .names) (a .count) 1 st =
+    ap (λ r. walkRun r (call .last .1 .1 .1 .1 .1 .0) (call .last .1 .1 .1 .1 .1 .1 .0) (call .last .1 .1 .1 .1 .1 .1 .1 .0)) (sym (c .before .a2 .given .1)) ∙ call .ensures in
     let h : l .r ≤ v .1 .0 = visit-rec (a .s .now) (a .names) (a .count) 1 st _ e in
-    let taken = c .before .before .before .before .before .before .before .before .before .before .before .before .before .before .before .loop-test .taken in (
+    let taken = c15 .loop-test .taken in (
       call .kept .1 .1 .1 .1 .1 .0 ∙ l .inv .0,
       call .kept .1 .1 .1 .1 .1 .1 .0 ∙ l .inv .1,
       call .kept .1 .1 .1 .1 .1 .1 .1 .0 ∙ l .inv .2,
@@ -126,16 +184,24 @@ loop-again t c =
 
 returns-4 : (t : ℕ) → lts.Need-returns-4 (claims t) (at t) itself.Post Inv-loop μ-loop
 returns-4 t c =
-    let call = c .before .before .before .before .before .before .before .before .before .read-record in
-    let a = c .before .before .before .before .before .before .before .before .before .before .before .before .before .before .before .before .before .before .before .before .args in
-    sym (visit-one (a .s .now) (a .names) (a .count) (state (a .rec) (a .records .now) (spot (a .at) (a .used) (tabs (a .files .now) (a .lines .now)))) (walkRun (Refused (c .before .k .given .0 .0)) (call .last .1 .1 .1 .1 .0) (call .last .1 .1 .1 .1 .1 .0) (call .last .1 .1 .1 .1 .1 .1 .0)) (sym (c .before .before .before .before .before .before .before .before .before .before .before .before .before .before .before .reads-nothing .ensures) ∙ c .before .before .before .before .before .before .before .before .before .before .before .before .before .before .if1 .left)
+    let c9 = c .before .before .before .before .before .before .before .before .before in
+    let c14 = c9 .before .before .before .before .before in
+    let c15 = c14 .before in
+    let c20 = c15 .before .before .before .before .before in
+    let call = c9 .read-record in
+    let a = c20 .args in
+    sym (visit-one (a .s .now) (a .names) (a .count) (state (a .rec) (a .records .now) (spot (a .at) (a .used) (tabs (a .files .now) (a .lines .now))))
+    (walkRun (Refused (c .before .k .given .0 .0)) (call .last .1 .1 .1 .1 .0) (call .last .1 .1 .1 .1 .1 .0) (call .last .1 .1 .1 .1 .1 .1 .0)) (sym (c15 .reads-nothing .ensures) ∙ c14 .if1 .left)
     (ap (λ r. walkRun r (call .last .1 .1 .1 .1 .0) (call .last .1 .1 .1 .1 .1 .0) (call .last .1 .1 .1 .1 .1 .1 .0)) (sym (c .before .k .given .1)) ∙ call .ensures))
 
 returns-5 : (t : ℕ) → lts.Need-returns-5 (claims t) (at t) itself.Post Inv-loop μ-loop
 returns-5 t c =
-    let a = c .before .before .before .before .before .before .before .before .before .before .before .before .before .before .before .before .before .before .before .before .before .before .args in
+    let c2 = c .before .before in
+    let c22 = c2 .before .before .before .before .before .before .before .before .before .before .before .before .before .before .before .before .before .before .before .before in
+    let a = c22 .args in
     let l = c .before .loop in
-    sym (began t (c .before .before) .1 ∙ l .inv .5 ∙ visit-done (a .s .now) (a .names) (a .count) (getD (a .records .now) (a .rec * 19 + 3) 0) (l .child) (state (l .r) (l .records) (spot (l .a) (l .u) (tabs (l .files) (l .lines)))) (c .loop-test .left))
+    sym (began t (c2) .1 ∙ l .inv .5 ∙ visit-done (a .s .now) (a .names) (a .count) (getD (a .records .now) (a .rec * 19 + 3) 0) (l .child)
+    (state (l .r) (l .records) (spot (l .a) (l .u) (tabs (l .files) (l .lines)))) (c .loop-test .left))
 
 pub +read-debug-record-spec : {M : Type 1} → statement M
 +read-debug-record-spec = close μ-records λ t. lts.spec (claims t)

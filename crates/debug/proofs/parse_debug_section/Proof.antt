@@ -14,10 +14,17 @@ unfolding debugOf
 returns c = rw (← c .before .before .before .before .section-size .ensures, c .before .before .stated .given .1, lt-leb _ _ (c .if1 .taken))
 
 slice-aggregate-read-content : tie.Need-slice-aggregate-read-content
-slice-aggregate-read-content c = sym (length-take-le (c .before .before .before .stated .given .0 .0) (c .before .before .before .before .before .before .before .before .before .before .before .args .f .now) (c .before .if1 .left))
+slice-aggregate-read-content c =
+    let c3 = c .before .before .before in
+    let c11 = c3 .before .before .before .before .before .before .before .before in
+    sym (length-take-le (c3 .stated .given .0 .0) (c11 .args .f .now) (c .before .if1 .left))
 
 read-content-requires : tie.Need-read-content-requires
-read-content-requires c κs = (omega (arith, c .before .before .before .before .before .before .before .before .before .before .before .before .before .before .before .pre .0, c .before .before .before .before .before .if1 .left, length-take-le (c .before .before .before .before .before .before .before .stated .given .0 .0) (c .before .before .before .before .before .before .before .before .before .before .before .before .before .before .before .args .f .now) (c .before .before .before .before .before .if1 .left)), search needs)
+read-content-requires c κs =
+    let c5 = c .before .before .before .before .before in
+    let c7 = c5 .before .before in
+    let c15 = c7 .before .before .before .before .before .before .before .before in
+    (omega (arith, c15 .pre .0, c5 .if1 .left, length-take-le (c7 .stated .given .0 .0) (c15 .args .f .now) (c5 .if1 .left)), search needs)
 
 returns-2 : tie.Need-returns-2
 unfolding debugOf
@@ -25,7 +32,12 @@ returns-2 c = rw (← c .before .before .before .section-size .ensures, c .befor
 
 returns-3 : tie.Need-returns-3
 unfolding debugOf
-returns-3 c = rw (← c .before .before .before .before .before .before .before .before .before .before .before .before .before .before .before .before .before .before .section-size .ensures, c .before .before .before .before .before .before .before .before .before .before .before .before .before .before .before .before .stated .given .1, le-leb _ _ (c .before .before .before .before .before .before .before .before .before .before .before .before .before .before .if1 .left)) (c .before .before .before .before .before .before .before .before .read-content .ensures)
+returns-3 c =
+    let c8 = c .before .before .before .before .before .before .before .before in
+    let c14 = c8 .before .before .before .before .before .before in
+    let c16 = c14 .before .before in
+    let c18 = c16 .before .before in
+    rw (← c18 .section-size .ensures, c16 .stated .given .1, le-leb _ _ (c14 .if1 .left)) (c8 .read-content .ensures)
 
 pub parse-debug-section-spec : {M : Type 1} → statement M
 parse-debug-section-spec =

@@ -11,11 +11,23 @@ returns c = rw (← c .before .before .before .before .before .read-lines .ensur
 
 returns-2 : tie.Need-returns-2
 unfolding bodyOf
-returns-2 c = rw (← c .before .before .before .before .before .before .before .before .before .before .before .before .before .before .before .read-lines .ensures, c .before .before .before .before .before .before .before .before .before .before .before .at .given .1, ← c .before .before .before .before .before .before .before .before .before .minus .ensures, ← c .before .before .before .before .before .before .before .before .first-row .ensures, ← c .before .before .before .before .before .put-row .ensures, c .before .k2 .given .1)
+returns-2 c =
+    let c5 = c .before .before .before .before .before in
+    let c8 = c5 .before .before .before in
+    let c9 = c8 .before in
+    let c11 = c9 .before .before in
+    let c15 = c11 .before .before .before .before in
+    rw (← c15 .read-lines .ensures, c11 .at .given .1, ← c9 .minus .ensures, ← c8 .first-row .ensures, ← c5 .put-row .ensures, c .before .k2 .given .1)
 
 returns-3 : tie.Need-returns-3
 unfolding bodyOf
-returns-3 c = rw (← c .before .before .before .before .before .before .before .before .before .before .before .before .before .before .before .read-lines .ensures, c .before .before .before .before .before .before .before .before .before .before .before .at .given .1, ← c .before .before .before .before .before .before .before .before .before .minus .ensures, ← c .before .before .before .before .before .before .before .before .first-row .ensures, ← c .before .before .before .before .before .put-row .ensures, c .before .next .given .1)
+returns-3 c =
+    let c5 = c .before .before .before .before .before in
+    let c8 = c5 .before .before .before in
+    let c9 = c8 .before in
+    let c11 = c9 .before .before in
+    let c15 = c11 .before .before .before .before in
+    rw (← c15 .read-lines .ensures, c11 .at .given .1, ← c9 .minus .ensures, ← c8 .first-row .ensures, ← c5 .put-row .ensures, c .before .next .given .1)
 
 pub read-body-spec : {M : Type 1} → statement M
 read-body-spec =

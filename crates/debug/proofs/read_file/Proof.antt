@@ -8,7 +8,11 @@ use Rattle.debug.proofs.read_file.Tie as tie
 
 returns : tie.Need-returns
 unfolding fileOf
-returns c = rw (← c .before .before .before .before .before .before .read-head .ensures, c .before .before .before .before .head .given .1, ← c .before .before .row-count .ensures, le-ltb _ _ (c .if1 .taken))
+returns c =
+    let c2 = c .before .before in
+    let c4 = c2 .before .before in
+    let c6 = c4 .before .before in
+    rw (← c6 .read-head .ensures, c4 .head .given .1, ← c2 .row-count .ensures, le-ltb _ _ (c .if1 .taken))
 
 returns-2 : tie.Need-returns-2
 unfolding fileOf
@@ -16,7 +20,13 @@ returns-2 c = rw (← c .before .before .before .read-head .ensures, c .before .
 
 returns-3 : tie.Need-returns-3
 unfolding fileOf
-returns-3 c = rw (← c .before .before .before .before .before .before .before .before .before .before .before .before .before .read-head .ensures, c .before .before .before .before .before .before .before .before .before .before .before .head .given .1, ← c .before .before .before .before .before .before .before .before .before .row-count .ensures, lt-ltb _ _ (c .before .before .before .before .before .before .before .if1 .left)) (c .before .before .before .before .read-body .ensures)
+returns-3 c =
+    let c4 = c .before .before .before .before in
+    let c7 = c4 .before .before .before in
+    let c9 = c7 .before .before in
+    let c11 = c9 .before .before in
+    let c13 = c11 .before .before in
+    rw (← c13 .read-head .ensures, c11 .head .given .1, ← c9 .row-count .ensures, lt-ltb _ _ (c7 .if1 .left)) (c4 .read-body .ensures)
 
 pub read-file-spec : {M : Type 1} → statement M
 read-file-spec =

@@ -20,19 +20,29 @@ loop-holds : tie.Need-loop-holds Inv-loop μ-loop
 loop-holds c = (refl, refl, refl)
 
 returns : tie.Need-returns Inv-loop μ-loop
-returns c = let l = c .before .before .before .before .before .before .before .before .before .before .before .loop in let a = c .before .before .before .before .before .before .before .before .before .before .before .before .before .before .before .args in let call = c .before .before .before .before .before .before .before .read-file in
+returns c =
+    let c7 = c .before .before .before .before .before .before .before in
+    let c10 = c7 .before .before .before in
+    let c11 = c10 .before in
+    let c15 = c11 .before .before .before .before in
+    let l = c11 .loop in let a = c15 .args in let call = c7 .read-file in
     files-no (a .s .now) (a .names) (l .left) (startOf (l .last)) (spot (l .place) (l .rows) (tabs (l .files) (l .lines)))
-    (call .result) (call .last .1 .1 .1 .1 .0) (call .last .1 .1 .1 .1 .1 .0) (c .before .k .given .0 .0) (c .before .before .before .before .before .before .before .before .before .before .loop-test .taken) (call .ensures) (c .before .k .given .1)
+    (call .result) (call .last .1 .1 .1 .1 .0) (call .last .1 .1 .1 .1 .1 .0) (c .before .k .given .0 .0) (c10 .loop-test .taken) (call .ensures) (c .before .k .given .1)
     ∙ l .inv .2
 
 loop-again : tie.Need-loop-again Inv-loop μ-loop
-loop-again c = let l = c .before .before .before .before .before .before .before .before .before .before .before .loop in let a = c .before .before .before .before .before .before .before .before .before .before .before .before .before .before .before .args in let call = c .before .before .before .before .before .before .before .read-file in let v = c .before .start .given .0 in (
-  call .kept .1 .1 .1 .1 .0 ∙ l .inv .0,
-  call .kept .1 .1 .1 .1 .1 .0 ∙ l .inv .1,
-  files-go (a .s .now) (a .names) (l .left) (startOf (l .last)) (spot (l .place) (l .rows) (tabs (l .files) (l .lines)))
-      (call .result) (call .last .1 .1 .1 .1 .0) (call .last .1 .1 .1 .1 .1 .0) (v .0) (v .1 .0) (v .1 .1 .0) (c .before .before .before .before .before .before .before .before .before .before .loop-test .taken) (call .ensures) (c .before .start .given .1)
-      ∙ l .inv .2,
-)
+loop-again c =
+    let c7 = c .before .before .before .before .before .before .before in
+    let c10 = c7 .before .before .before in
+    let c11 = c10 .before in
+    let c15 = c11 .before .before .before .before in
+    let l = c11 .loop in let a = c15 .args in let call = c7 .read-file in let v = c .before .start .given .0 in (
+      call .kept .1 .1 .1 .1 .0 ∙ l .inv .0,
+      call .kept .1 .1 .1 .1 .1 .0 ∙ l .inv .1,
+      files-go (a .s .now) (a .names) (l .left) (startOf (l .last)) (spot (l .place) (l .rows) (tabs (l .files) (l .lines)))
+          (call .result) (call .last .1 .1 .1 .1 .0) (call .last .1 .1 .1 .1 .1 .0) (v .0) (v .1 .0) (v .1 .1 .0) (c10 .loop-test .taken) (call .ensures) (c .before .start .given .1)
+          ∙ l .inv .2,
+    )
 
 returns-2 : tie.Need-returns-2 Inv-loop μ-loop
 returns-2 c = let l = c .before .loop in let a = c .before .before .before .before .before .args in

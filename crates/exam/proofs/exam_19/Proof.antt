@@ -14,35 +14,24 @@ Inv-loop code flags handlers first n end h₀ h = Caught code handlers first n h
 abbrev μ-loop : tie.MeasureT-loop
 μ-loop code flags handlers first n end h₀ h = first + n - h
 
-add-end : tie.Need-add-end Inv-loop μ-loop
-add-end c = search needs
-
 loop-holds : tie.Need-loop-holds Inv-loop μ-loop
 loop-holds c = caught-start
 
-mul-word : tie.Need-mul-word Inv-loop μ-loop
-mul-word c = search needs
-
-add-word : tie.Need-add-word Inv-loop μ-loop
-add-word c = search needs
-
-word-requires : tie.Need-word-requires Inv-loop μ-loop
-word-requires c κs = search needs
-
-begins-at-requires : tie.Need-begins-at-requires Inv-loop μ-loop
-begins-at-requires c κs = search needs
-
 returns : tie.Need-returns Inv-loop μ-loop
-returns c = caught-bad (c .before .before .before .loop-test .taken) (c .before .before .before .before .loop .inv) (at-word (c .before .before .before .before .before .before .before .before .args .code .now) (c .before .before .word .ensures .0) (c .before .begins-at .ensures) ∙ not-true _ (c .if1 .taken))
-
-add-h : tie.Need-add-h Inv-loop μ-loop
-add-h c = search needs
-
-loop-less : tie.Need-loop-less Inv-loop μ-loop
-loop-less c = search needs
+returns c =
+    let c2 = c .before .before in
+    let c3 = c2 .before in
+    let c4 = c3 .before in
+    let c8 = c4 .before .before .before .before in
+    caught-bad (c3 .loop-test .taken) (c4 .loop .inv) (at-word (c8 .args .code .now) (c2 .word .ensures .0) (c .before .begins-at .ensures) ∙ not-true _ (c .if1 .taken))
 
 loop-again : tie.Need-loop-again Inv-loop μ-loop
-loop-again c = caught-turn (c .before .before .before .loop-test .taken) (c .before .before .before .before .loop .inv) (at-word (c .before .before .before .before .before .before .before .before .args .code .now) (c .before .before .word .ensures .0) (c .before .begins-at .ensures) ∙ not-false _ (c .if1 .left))
+loop-again c =
+    let c2 = c .before .before in
+    let c3 = c2 .before in
+    let c4 = c3 .before in
+    let c8 = c4 .before .before .before .before in
+    caught-turn (c3 .loop-test .taken) (c4 .loop .inv) (at-word (c8 .args .code .now) (c2 .word .ensures .0) (c .before .begins-at .ensures) ∙ not-false _ (c .if1 .left))
 
 returns-2 : tie.Need-returns-2 Inv-loop μ-loop
 returns-2 c = caught-end (c .loop-test .left) (c .before .loop .inv)
@@ -53,14 +42,14 @@ exam-19-spec =
     (tie.spec
     Inv-loop
     μ-loop
-    add-end
+    (λ c. search needs)
     loop-holds
-    mul-word
-    add-word
-    word-requires
-    begins-at-requires
+    (λ c. search needs)
+    (λ c. search needs)
+    (λ c κs. search needs)
+    (λ c κs. search needs)
     returns
-    add-h
-    loop-less
+    (λ c. search needs)
+    (λ c. search needs)
     loop-again
     returns-2)

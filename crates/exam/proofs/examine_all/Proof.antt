@@ -19,25 +19,24 @@ loop-holds : tie.Need-loop-holds Inv-loop μ-loop
 loop-holds c = (refl, passed-start)
 
 examine-record-requires : tie.Need-examine-record-requires Inv-loop μ-loop
-examine-record-requires c κs = (c .before .before .before .before .before .before .before .before .pre .0 .each (c .before .before .loop .r) (c .before .loop-test .taken), omega (arith, c .before .before .before .before .before .before .before .before .pre .1, c .before .before .loop .inv .0))
-
-same-length : tie.Need-same-length Inv-loop μ-loop
-same-length c = search needs
+examine-record-requires c κs =
+    let c2 = c .before .before in
+    let c8 = c2 .before .before .before .before .before .before in
+    (c8 .pre .0 .each (c2 .loop .r) (c .before .loop-test .taken), omega (arith, c8 .pre .1, c2 .loop .inv .0))
 
 returns : tie.Need-returns Inv-loop μ-loop
-returns c = passed-stop (c .before .before .before .before .before .loop-test .taken) (c .before .before .before .before .before .before .loop .inv .1) (c .before .before .before .examine-record .ensures) (c .if1 .taken)
-
-add-r : tie.Need-add-r Inv-loop μ-loop
-add-r c = search needs
-
-loop-less : tie.Need-loop-less Inv-loop μ-loop
-loop-less c = search needs
+returns c =
+    let c3 = c .before .before .before in
+    let c5 = c3 .before .before in
+    let c6 = c5 .before in
+    passed-stop (c5 .loop-test .taken) (c6 .loop .inv .1) (c3 .examine-record .ensures) (c .if1 .taken)
 
 loop-again : tie.Need-loop-again Inv-loop μ-loop
-loop-again c = (search needs, passed-turn (c .before .before .before .before .before .loop-test .taken) (c .before .before .before .before .before .before .loop .inv .1) (c .before .before .before .examine-record .ensures) (c .if1 .left))
-
-same-length-2 : tie.Need-same-length-2 Inv-loop μ-loop
-same-length-2 c = search needs
+loop-again c =
+    let c3 = c .before .before .before in
+    let c5 = c3 .before .before in
+    let c6 = c5 .before in
+    (search needs, passed-turn (c5 .loop-test .taken) (c6 .loop .inv .1) (c3 .examine-record .ensures) (c .if1 .left))
 
 returns-2 : tie.Need-returns-2 Inv-loop μ-loop
 returns-2 c = passed-end (c .loop-test .left) (c .before .loop .inv .1)
@@ -50,10 +49,10 @@ examine-all-spec =
     μ-loop
     loop-holds
     examine-record-requires
-    same-length
+    (λ c. search needs)
     returns
-    add-r
-    loop-less
+    (λ c. search needs)
+    (λ c. search needs)
     loop-again
-    same-length-2
+    (λ c. search needs)
     returns-2)

@@ -5,43 +5,38 @@ use borrow.Author.Needs.{needs}
 use Rattle.exam.proofs.examine_part.Statement.{statement}
 use Rattle.exam.proofs.examine_part.Tie as tie
 
-exam-code-requires : tie.Need-exam-code-requires
-exam-code-requires c κs = search needs
-
-same-length : tie.Need-same-length
-same-length c = search needs
-
 returns : tie.Need-returns
 returns c = rw (← c .before .before .before .exam-code .ensures .answers) (first-some _ _ (c .if1 .taken))
 
 exam-19-requires : tie.Need-exam-19-requires
-exam-19-requires c κs = (c .before .before .before .before .exam-code .ensures .marked (c .before .if1 .left), c .before .before .before .before .before .before .before .before .before .before .before .pre .1 .1 .0)
-
-same-length-2 : tie.Need-same-length-2
-same-length-2 c = search needs
+exam-19-requires c κs =
+    let c4 = c .before .before .before .before in
+    let c11 = c4 .before .before .before .before .before .before .before in
+    (c4 .exam-code .ensures .marked (c .before .if1 .left), c11 .pre .1 .1 .0)
 
 returns-2 : tie.Need-returns-2
-returns-2 c = rw (← c .before .before .before .before .before .before .exam-code .ensures .answers, c .before .before .before .if1 .left, ← c .before .exam-19 .ensures) (first-some _ _ (c .if2 .taken))
-
-exam-20-requires : tie.Need-exam-20-requires
-exam-20-requires c κs = search needs
-
-same-length-3 : tie.Need-same-length-3
-same-length-3 c = search needs
+returns-2 c =
+    let c3 = c .before .before .before in
+    let c6 = c3 .before .before .before in
+    rw (← c6 .exam-code .ensures .answers, c3 .if1 .left, ← c .before .exam-19 .ensures) (first-some _ _ (c .if2 .taken))
 
 returns-3 : tie.Need-returns-3
-returns-3 c = rw (← c .before .before .before .before .before .before .before .exam-code .ensures .answers, c .before .before .before .before .if1 .left, ← c .before .before .exam-19 .ensures, c .before .if2 .left) (c .exam-20 .ensures)
+returns-3 c =
+    let c2 = c .before .before in
+    let c4 = c2 .before .before in
+    let c7 = c4 .before .before .before in
+    rw (← c7 .exam-code .ensures .answers, c4 .if1 .left, ← c2 .exam-19 .ensures, c .before .if2 .left) (c .exam-20 .ensures)
 
 pub examine-part-spec : {M : Type 1} → statement M
 examine-part-spec =
     tie.close
     (tie.spec
-    exam-code-requires
-    same-length
+    (λ c κs. search needs)
+    (λ c. search needs)
     returns
     exam-19-requires
-    same-length-2
+    (λ c. search needs)
     returns-2
-    exam-20-requires
-    same-length-3
+    (λ c κs. search needs)
+    (λ c. search needs)
     returns-3)

@@ -18,27 +18,6 @@ loop-holds c = laid-start
 returns : tie.Need-returns Inv-loop μ-loop
 returns c = laid-bad (c .before .loop-test .taken) (c .before .before .loop .inv) (c .if1 .taken)
 
-sub-p : tie.Need-sub-p Inv-loop μ-loop
-sub-p c = search needs
-
-mul-word : tie.Need-mul-word Inv-loop μ-loop
-mul-word c = search needs
-
-add-word : tie.Need-add-word Inv-loop μ-loop
-add-word c = search needs
-
-word-requires : tie.Need-word-requires Inv-loop μ-loop
-word-requires c κs = search needs
-
-add-p : tie.Need-add-p Inv-loop μ-loop
-add-p c = search needs
-
-add-i : tie.Need-add-i Inv-loop μ-loop
-add-i c = search needs
-
-loop-less : tie.Need-loop-less Inv-loop μ-loop
-loop-less c = search needs
-
 loop-again : tie.Need-loop-again Inv-loop μ-loop
 loop-again c = laid-turn (c .before .before .loop-test .taken) (c .before .before .before .loop .inv) (c .before .if1 .left) (c .word .ensures .0) (c .word .ensures .1)
 
@@ -53,12 +32,12 @@ whole-tree-spec =
     μ-loop
     loop-holds
     returns
-    sub-p
-    mul-word
-    add-word
-    word-requires
-    add-p
-    add-i
-    loop-less
+    (λ c. search needs)
+    (λ c. search needs)
+    (λ c. search needs)
+    (λ c κs. search needs)
+    (λ c. search needs)
+    (λ c. search needs)
+    (λ c. search needs)
     loop-again
     returns-2)

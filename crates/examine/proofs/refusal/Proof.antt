@@ -9,11 +9,8 @@ use Rattle.examine.proofs.refusal.Tie as tie
 returns : tie.Need-returns
 returns c = rw (lt-leb (c .before .before .before .before .before .args .n) (c .before .before .before .before .before .args .rows) (omega arith))
 
-examine-tables-requires : tie.Need-examine-tables-requires
-examine-tables-requires c κs = search needs
-
 returns-2 : tie.Need-returns-2
 returns-2 c = rw (le-leb (c .before .before .before .before .before .before .args .n) (c .before .before .before .before .before .before .args .rows) (omega arith)) (c .examine-tables .ensures)
 
 pub refusal-spec : {M : Type 1} → statement M
-refusal-spec = tie.close (tie.spec returns examine-tables-requires returns-2)
+refusal-spec = tie.close (tie.spec returns (λ c κs. search needs) returns-2)

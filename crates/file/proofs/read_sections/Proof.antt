@@ -14,37 +14,110 @@ use Rattle.file.proofs.read_sections.Statement.{statement}
 use Rattle.file.proofs.read_sections.Tie as tie
 
 abbrev Inv-loop : tie.InvT-loop
-Inv-loop f limit records₀ handlers₀ pool₀ symbols₀ strings₀ names₀ filenames₀ files₀ lines₀ left₀ at₀ p₀ records handlers pool symbols strings names filenames files lines left at p = Same (words records handlers pool symbols strings names filenames files lines) (words records₀ handlers₀ pool₀ symbols₀ strings₀ names₀ filenames₀ files₀ lines₀) × (sectionsOut f limit left at (words records handlers pool symbols strings names filenames files lines) p ≡ sectionsOut f limit (length f) 20 (words records₀ handlers₀ pool₀ symbols₀ strings₀ names₀ filenames₀ files₀ lines₀) begun)
+Inv-loop f limit records₀ handlers₀ pool₀ symbols₀ strings₀ names₀ filenames₀ files₀ lines₀ left₀ at₀ p₀ records handlers pool symbols strings names filenames files lines left at p =
+    Same (words records handlers pool symbols strings names filenames files lines) (words records₀ handlers₀ pool₀ symbols₀ strings₀ names₀ filenames₀ files₀ lines₀) ×
+    (sectionsOut f limit left at (words records handlers pool symbols strings names filenames files lines) p ≡ sectionsOut f limit (length f) 20
+    (words records₀ handlers₀ pool₀ symbols₀ strings₀ names₀ filenames₀ files₀ lines₀) begun)
 
 abbrev μ-loop : tie.MeasureT-loop
 μ-loop f limit records₀ handlers₀ pool₀ symbols₀ strings₀ names₀ filenames₀ files₀ lines₀ left₀ at₀ p₀ records handlers pool symbols strings names filenames files lines left at p = left
 
 loop-holds : tie.Need-loop-holds Inv-loop μ-loop
-loop-holds c = (record { records = refl; handlers = refl; pool = refl; symbols = refl; strings = refl; names = refl; fileNames = refl; files = refl; lines = refl }, ap (λ q. sectionsOut (c .before .before .before .before .before .before .before .before .before .before .before .args .f .now) (c .before .before .before .before .before .before .before .before .before .before .before .args .limit) (length (c .before .before .before .before .before .before .before .before .before .before .before .args .f .now)) 20 (words (c .before .before .before .before .before .before .before .before .before .before .before .args .records .now) (c .before .before .before .before .before .before .before .before .before .before .before .args .handlers .now) (c .before .before .before .before .before .before .before .before .before .before .before .args .pool .now) (c .before .before .before .before .before .before .before .before .before .before .before .args .symbols .now) (c .before .before .before .before .before .before .before .before .before .before .before .args .strings .now) (c .before .before .before .before .before .before .before .before .before .before .before .args .names .now) (c .before .before .before .before .before .before .before .before .before .before .before .args .filenames .now) (c .before .before .before .before .before .before .before .before .before .before .before .args .files .now) (c .before .before .before .before .before .before .before .before .before .before .before .args .lines .now)) q) (c .nothing-read .ensures))
+loop-holds c =
+    let c11 = c .before .before .before .before .before .before .before .before .before .before .before in
+    let a = c11 .args in
+    let lent = words (a .records .now) (a .handlers .now) (a .pool .now) (a .symbols .now) (a .strings .now) (a .names .now) (a .filenames .now) (a .files .now) (a .lines .now) in (
+      record { records = refl; handlers = refl; pool = refl; symbols = refl; strings = refl; names = refl; fileNames = refl; files = refl; lines = refl },
+      ap (λ q. sectionsOut (a .f .now) (a .limit) (length (a .f .now)) 20 lent q) (c .nothing-read .ensures),
+    )
 
 returns : tie.Need-returns Inv-loop μ-loop
-returns c = let l = c .before .before .before .before .loop in sections-short (c .before .before .before .before .before .before .before .before .before .before .before .before .before .before .before .before .args .f .now) (c .before .before .before .before .before .before .before .before .before .before .before .before .before .before .before .before .args .limit) (l .left) (l .at) (words (l .records) (l .handlers) (l .pool) (l .symbols) (l .strings) (l .names) (l .filenames) (l .files) (l .lines)) (l .p) (rw (← c .before .before .rest .ensures) (lt-leb _ _ (c .before .if1 .taken))) ∙ l .inv .1
+returns c =
+    let c2 = c .before .before in
+    let c4 = c2 .before .before in
+    let c16 = c4 .before .before .before .before .before .before .before .before .before .before .before .before in
+    let l = c4 .loop in
+    sections-short (c16 .args .f .now) (c16 .args .limit) (l .left) (l .at)
+    (words (l .records) (l .handlers) (l .pool) (l .symbols) (l .strings) (l .names) (l .filenames) (l .files) (l .lines)) (l .p)
+    (rw (← c2 .rest .ensures) (lt-leb _ _ (c .before .if1 .taken))) ∙ l .inv .1
 
 add-at : tie.Need-add-at Inv-loop μ-loop
-add-at c = omega (arith, c .before .before .before .before .before .before .before .before .before .before .before .before .before .before .before .before .before .before .before .before .before .before .before .before .before .before .before .before .before .before .before .before .rest .ensures, c .before .before .before .before .before .before .before .before .before .before .before .before .before .before .before .before .before .before .before .before .before .before .before .before .before .before .before .before .before .before .before .if1 .left, c .before .before .before .before .before .before .before .before .before .before .before .before .before .before .before .before .before .before .before .before .before .before .before .before .before .before .before .before .before .before .before .before .before .before .before .before .before .before .before .before .before .before .before .before .before .before .pre)
+add-at c =
+    let c20 = c .before .before .before .before .before .before .before .before .before .before .before .before .before .before .before .before .before .before .before .before in
+    let c31 = c20 .before .before .before .before .before .before .before .before .before .before .before in
+    let c32 = c31 .before in
+    let c46 = c32 .before .before .before .before .before .before .before .before .before .before .before .before .before .before in
+    omega (arith, c32 .rest .ensures, c31 .if1 .left, c46 .pre)
 
 returns-2 : tie.Need-returns-2 Inv-loop μ-loop
-returns-2 c = let l = c .before .before .before .before .before .before .before .before .before .before .before .before .before .before .before .before .before .before .before .before .before .before .before .before .before .before .before .before .before .before .before .before .before .before .loop in sections-no (c .before .before .before .before .before .before .before .before .before .before .before .before .before .before .before .before .before .before .before .before .before .before .before .before .before .before .before .before .before .before .before .before .before .before .before .before .before .before .before .before .before .before .before .before .before .before .args .f .now) (c .before .before .before .before .before .before .before .before .before .before .before .before .before .before .before .before .before .before .before .before .before .before .before .before .before .before .before .before .before .before .before .before .before .before .before .before .before .before .before .before .before .before .before .before .before .before .args .limit) (l .left) (l .at) (words (l .records) (l .handlers) (l .pool) (l .symbols) (l .strings) (l .names) (l .filenames) (l .files) (l .lines)) (l .p) (c .before .before .before .before .before .before .before .before .before .before .before .before .before .before .before .before .before .before .before .before .before .read-section .result) (words (c .before .before .before .before .before .before .before .before .before .before .before .before .before .before .before .before .before .before .before .before .before .read-section .last .1 .1 .1 .0) (c .before .before .before .before .before .before .before .before .before .before .before .before .before .before .before .before .before .before .before .before .before .read-section .last .1 .1 .1 .1 .0) (c .before .before .before .before .before .before .before .before .before .before .before .before .before .before .before .before .before .before .before .before .before .read-section .last .1 .1 .1 .1 .1 .0) (c .before .before .before .before .before .before .before .before .before .before .before .before .before .before .before .before .before .before .before .before .before .read-section .last .1 .1 .1 .1 .1 .1 .0) (c .before .before .before .before .before .before .before .before .before .before .before .before .before .before .before .before .before .before .before .before .before .read-section .last .1 .1 .1 .1 .1 .1 .1 .0) (c .before .before .before .before .before .before .before .before .before .before .before .before .before .before .before .before .before .before .before .before .before .read-section .last .1 .1 .1 .1 .1 .1 .1 .1 .0) (c .before .before .before .before .before .before .before .before .before .before .before .before .before .before .before .before .before .before .before .before .before .read-section .last .1 .1 .1 .1 .1 .1 .1 .1 .1 .0) (c .before .before .before .before .before .before .before .before .before .before .before .before .before .before .before .before .before .before .before .before .before .read-section .last .1 .1 .1 .1 .1 .1 .1 .1 .1 .1 .0) (c .before .before .before .before .before .before .before .before .before .before .before .before .before .before .before .before .before .before .before .before .before .read-section .last .1 .1 .1 .1 .1 .1 .1 .1 .1 .1 .1 .0)) (c .before .e .given .0 .0) (c .before .before .before .before .before .before .before .before .before .before .before .before .before .before .before .before .before .before .before .before .before .before .before .before .before .before .before .before .before .before .before .before .before .loop-test .taken) (rw (← c .before .before .before .before .before .before .before .before .before .before .before .before .before .before .before .before .before .before .before .before .before .before .before .before .before .before .before .before .before .before .before .before .rest .ensures) (le-leb _ _ (c .before .before .before .before .before .before .before .before .before .before .before .before .before .before .before .before .before .before .before .before .before .before .before .before .before .before .before .before .before .before .before .if1 .left))) (c .before .before .before .before .before .before .before .before .before .before .before .before .before .before .before .before .before .before .before .before .before .read-section .ensures) (c .before .e .given .1) ∙ l .inv .1
+returns-2 c =
+    let c20 = c .before .before .before .before .before .before .before .before .before .before .before .before .before .before .before .before .before .before .before .before in
+    let c21 = c20 .before in
+    let c31 = c21 .before .before .before .before .before .before .before .before .before .before in
+    let c32 = c31 .before in
+    let c33 = c32 .before in
+    let c34 = c33 .before in
+    let c46 = c34 .before .before .before .before .before .before .before .before .before .before .before .before in
+    let last = c21 .read-section .last in
+    let l = c34 .loop in
+    sections-no (c46 .args .f .now) (c46 .args .limit) (l .left) (l .at)
+    (words (l .records) (l .handlers) (l .pool) (l .symbols) (l .strings) (l .names) (l .filenames) (l .files) (l .lines)) (l .p) (c21 .read-section .result)
+    (words (last .1 .1 .1 .0) (last .1 .1 .1 .1 .0) (last .1 .1 .1 .1 .1 .0) (last .1 .1 .1 .1 .1 .1 .0) (last .1 .1 .1 .1 .1 .1 .1 .0) (last .1 .1 .1 .1 .1 .1 .1 .1 .0)
+    (last .1 .1 .1 .1 .1 .1 .1 .1 .1 .0) (last .1 .1 .1 .1 .1 .1 .1 .1 .1 .1 .0) (last .1 .1 .1 .1 .1 .1 .1 .1 .1 .1 .1 .0)) (c .before .e .given .0 .0)
+    (c33 .loop-test .taken) (rw (← c32 .rest .ensures) (le-leb _ _ (c31 .if1 .left))) (c21 .read-section .ensures) (c .before .e .given .1) ∙ l .inv .1
 
 sub-left : tie.Need-sub-left Inv-loop μ-loop
-sub-left c = omega (arith, c .before .before .before .before .before .before .before .before .before .before .before .before .before .before .before .before .before .before .before .before .before .before .before .before .before .before .before .before .before .before .before .before .before .loop-test .taken)
+sub-left c =
+    let c20 = c .before .before .before .before .before .before .before .before .before .before .before .before .before .before .before .before .before .before .before .before in
+    let c33 = c20 .before .before .before .before .before .before .before .before .before .before .before .before .before in
+    omega (arith, c33 .loop-test .taken)
 
 loop-less : tie.Need-loop-less Inv-loop μ-loop
-loop-less c = omega (arith, c .before .before .before .before .before .before .before .before .before .before .before .before .before .before .before .before .before .before .before .before .before .before .before .before .before .before .before .before .before .before .before .before .before .loop-test .taken)
+loop-less c =
+    let c20 = c .before .before .before .before .before .before .before .before .before .before .before .before .before .before .before .before .before .before .before .before in
+    let c33 = c20 .before .before .before .before .before .before .before .before .before .before .before .before .before in
+    omega (arith, c33 .loop-test .taken)
 
 loop-again : tie.Need-loop-again Inv-loop μ-loop
-loop-again c = let l = c .before .before .before .before .before .before .before .before .before .before .before .before .before .before .before .before .before .before .before .before .before .before .before .before .before .before .before .before .before .before .before .before .before .before .loop in (
-  record { records = c .before .before .before .before .before .before .before .before .before .before .before .before .before .before .before .before .before .before .before .before .before .read-section .kept .1 .1 .1 .0 ∙ l .inv .0 .records; handlers = c .before .before .before .before .before .before .before .before .before .before .before .before .before .before .before .before .before .before .before .before .before .read-section .kept .1 .1 .1 .1 .0 ∙ l .inv .0 .handlers; pool = c .before .before .before .before .before .before .before .before .before .before .before .before .before .before .before .before .before .before .before .before .before .read-section .kept .1 .1 .1 .1 .1 .0 ∙ l .inv .0 .pool; symbols = c .before .before .before .before .before .before .before .before .before .before .before .before .before .before .before .before .before .before .before .before .before .read-section .kept .1 .1 .1 .1 .1 .1 .0 ∙ l .inv .0 .symbols; strings = c .before .before .before .before .before .before .before .before .before .before .before .before .before .before .before .before .before .before .before .before .before .read-section .kept .1 .1 .1 .1 .1 .1 .1 .0 ∙ l .inv .0 .strings; names = c .before .before .before .before .before .before .before .before .before .before .before .before .before .before .before .before .before .before .before .before .before .read-section .kept .1 .1 .1 .1 .1 .1 .1 .1 .0 ∙ l .inv .0 .names; fileNames = c .before .before .before .before .before .before .before .before .before .before .before .before .before .before .before .before .before .before .before .before .before .read-section .kept .1 .1 .1 .1 .1 .1 .1 .1 .1 .0 ∙ l .inv .0 .fileNames; files = c .before .before .before .before .before .before .before .before .before .before .before .before .before .before .before .before .before .before .before .before .before .read-section .kept .1 .1 .1 .1 .1 .1 .1 .1 .1 .1 .0 ∙ l .inv .0 .files; lines = c .before .before .before .before .before .before .before .before .before .before .before .before .before .before .before .before .before .before .before .before .before .read-section .kept .1 .1 .1 .1 .1 .1 .1 .1 .1 .1 .1 .0 ∙ l .inv .0 .lines },
-  sections-go (c .before .before .before .before .before .before .before .before .before .before .before .before .before .before .before .before .before .before .before .before .before .before .before .before .before .before .before .before .before .before .before .before .before .before .before .before .before .before .before .before .before .before .before .before .before .before .args .f .now) (c .before .before .before .before .before .before .before .before .before .before .before .before .before .before .before .before .before .before .before .before .before .before .before .before .before .before .before .before .before .before .before .before .before .before .before .before .before .before .before .before .before .before .before .before .before .before .args .limit) (l .left) (l .at) (words (l .records) (l .handlers) (l .pool) (l .symbols) (l .strings) (l .names) (l .filenames) (l .files) (l .lines)) (l .p) (c .before .before .before .before .before .before .before .before .before .before .before .before .before .before .before .before .before .before .before .before .before .read-section .result) (words (c .before .before .before .before .before .before .before .before .before .before .before .before .before .before .before .before .before .before .before .before .before .read-section .last .1 .1 .1 .0) (c .before .before .before .before .before .before .before .before .before .before .before .before .before .before .before .before .before .before .before .before .before .read-section .last .1 .1 .1 .1 .0) (c .before .before .before .before .before .before .before .before .before .before .before .before .before .before .before .before .before .before .before .before .before .read-section .last .1 .1 .1 .1 .1 .0) (c .before .before .before .before .before .before .before .before .before .before .before .before .before .before .before .before .before .before .before .before .before .read-section .last .1 .1 .1 .1 .1 .1 .0) (c .before .before .before .before .before .before .before .before .before .before .before .before .before .before .before .before .before .before .before .before .before .read-section .last .1 .1 .1 .1 .1 .1 .1 .0) (c .before .before .before .before .before .before .before .before .before .before .before .before .before .before .before .before .before .before .before .before .before .read-section .last .1 .1 .1 .1 .1 .1 .1 .1 .0) (c .before .before .before .before .before .before .before .before .before .before .before .before .before .before .before .before .before .before .before .before .before .read-section .last .1 .1 .1 .1 .1 .1 .1 .1 .1 .0) (c .before .before .before .before .before .before .before .before .before .before .before .before .before .before .before .before .before .before .before .before .before .read-section .last .1 .1 .1 .1 .1 .1 .1 .1 .1 .1 .0) (c .before .before .before .before .before .before .before .before .before .before .before .before .before .before .before .before .before .before .before .before .before .read-section .last .1 .1 .1 .1 .1 .1 .1 .1 .1 .1 .1 .0)) (c .before .size .given .0 .0) (c .before .size .given .0 .1 .0) (c .before .before .before .before .before .before .before .before .before .before .before .before .before .before .before .before .before .before .before .before .before .before .before .before .before .before .before .before .before .before .before .before .before .loop-test .taken) (rw (← c .before .before .before .before .before .before .before .before .before .before .before .before .before .before .before .before .before .before .before .before .before .before .before .before .before .before .before .before .before .before .before .before .rest .ensures) (le-leb _ _ (c .before .before .before .before .before .before .before .before .before .before .before .before .before .before .before .before .before .before .before .before .before .before .before .before .before .before .before .before .before .before .before .if1 .left))) (c .before .before .before .before .before .before .before .before .before .before .before .before .before .before .before .before .before .before .before .before .before .read-section .ensures) (c .before .size .given .1) ∙ l .inv .1,
-)
+loop-again c =
+    let c20 = c .before .before .before .before .before .before .before .before .before .before .before .before .before .before .before .before .before .before .before .before in
+    let c21 = c20 .before in
+    let c31 = c21 .before .before .before .before .before .before .before .before .before .before in
+    let c32 = c31 .before in
+    let c33 = c32 .before in
+    let c34 = c33 .before in
+    let c46 = c34 .before .before .before .before .before .before .before .before .before .before .before .before in
+    let last = c21 .read-section .last in
+    let l = c34 .loop in (
+      record {
+        records = c21 .read-section .kept .1 .1 .1 .0 ∙ l .inv .0 .records;
+        handlers = c21 .read-section .kept .1 .1 .1 .1 .0 ∙ l .inv .0 .handlers;
+        pool = c21
+            .read-section .kept .1 .1 .1 .1 .1 .0 ∙ l .inv .0 .pool;
+        symbols = c21 .read-section .kept .1 .1 .1 .1 .1 .1 .0
+            ∙ l .inv .0 .symbols;
+        strings = c21 .read-section .kept .1 .1 .1 .1 .1 .1 .1 .0 ∙ l .inv .0 .strings;
+        names = c21 .read-section .kept .1 .1 .1 .1 .1 .1 .1 .1 .0
+            ∙ l .inv .0 .names;
+        fileNames = c21 .read-section .kept .1 .1 .1 .1 .1 .1 .1 .1 .1 .0
+            ∙ l .inv .0 .fileNames;
+        files = c21 .read-section .kept .1 .1 .1 .1 .1 .1 .1 .1 .1 .1 .0 ∙ l .inv .0 .files;
+        lines = c21 .read-section .kept .1 .1 .1 .1 .1 .1 .1 .1 .1 .1 .1 .0 ∙ l .inv .0 .lines;
+      },
+      sections-go (c46 .args .f .now) (c46 .args .limit) (l .left) (l .at)
+          (words (l .records) (l .handlers) (l .pool) (l .symbols) (l .strings) (l .names) (l .filenames) (l .files) (l .lines)) (l .p) (c21 .read-section .result)
+          (words (last .1 .1 .1 .0) (last .1 .1 .1 .1 .0) (last .1 .1 .1 .1 .1 .0) (last .1 .1 .1 .1 .1 .1 .0) (last .1 .1 .1 .1 .1 .1 .1 .0) (last .1 .1 .1 .1 .1 .1 .1 .1 .0)
+          (last .1 .1 .1 .1 .1 .1 .1 .1 .1 .0) (last .1 .1 .1 .1 .1 .1 .1 .1 .1 .1 .0) (last .1 .1 .1 .1 .1 .1 .1 .1 .1 .1 .1 .0)) (c .before .size .given .0 .0)
+          (c .before .size .given .0 .1 .0) (c33 .loop-test .taken) (rw (← c32 .rest .ensures) (le-leb _ _ (c31 .if1 .left))) (c21 .read-section .ensures) (c .before .size .given .1) ∙ l .inv .1,
+    )
 
 returns-3 : tie.Need-returns-3 Inv-loop μ-loop
-returns-3 c = let l = c .before .before .loop in sections-done (c .before .before .before .before .before .before .before .before .before .before .before .before .before .before .args .f .now) (c .before .before .before .before .before .before .before .before .before .before .before .before .before .before .args .limit) (l .left) (l .at) (words (l .records) (l .handlers) (l .pool) (l .symbols) (l .strings) (l .names) (l .filenames) (l .files) (l .lines)) (l .p) (c .before .loop-test .left) ∙ l .inv .1
+returns-3 c =
+    let c2 = c .before .before in
+    let c14 = c2 .before .before .before .before .before .before .before .before .before .before .before .before in
+    let l = c2 .loop in
+    sections-done (c14 .args .f .now) (c14 .args .limit) (l .left) (l .at)
+    (words (l .records) (l .handlers) (l .pool) (l .symbols) (l .strings) (l .names) (l .filenames) (l .files) (l .lines)) (l .p) (c .before .loop-test .left) ∙ l .inv .1
 
 pub read-sections-spec : {M : Type 1} → statement M
 read-sections-spec =

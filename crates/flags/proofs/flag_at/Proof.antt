@@ -24,22 +24,32 @@ operand-below-requires-2 : tie.Need-operand-below-requires-2
 operand-below-requires-2 c κs = (c .before .before .before .before .pre .0, second-operand (c .before .before .before .before .pre .1))
 
 returns-2 : tie.Need-returns-2
-returns-2 c = flag-second (c .before .before .before .before .before .before .pre .1) (c .before .before .before .before .before .before .args .limits .now) (sym (c .before .before .before .operand-below .ensures) ∙ not-false _ (c .before .before .if1 .left)) (sym (c .before .operand-below2 .ensures) ∙ not-true _ (c .if2 .taken))
+returns-2 c =
+    let c2 = c .before .before in
+    let c3 = c2 .before in
+    let c6 = c3 .before .before .before in
+    flag-second (c6 .pre .1) (c6 .args .limits .now) (sym (c3 .operand-below .ensures) ∙ not-false _ (c2 .if1 .left)) (sym (c .before .operand-below2 .ensures) ∙ not-true _ (c .if2 .taken))
 
 add-if3 : tie.Need-add-if3
 add-if3 c = omega (arith, c .before .before .before .before .before .before .pre .1 .whole)
 
-cast-result : tie.Need-cast-result
-cast-result c = search needs
-
 returns-3 : tie.Need-returns-3
-returns-3 c = flag-inside (c .before .before .before .before .before .before .before .pre .1) (c .before .before .before .before .before .before .before .args .limits .now) (sym (c .before .before .before .before .operand-below .ensures) ∙ not-false _ (c .before .before .before .if1 .left)) (sym (c .before .before .operand-below2 .ensures) ∙ not-false _ (c .before .if2 .left)) (c .if3 .taken)
-
-cast-result-2 : tie.Need-cast-result-2
-cast-result-2 c = search needs
+returns-3 c =
+    let c2 = c .before .before in
+    let c3 = c2 .before in
+    let c4 = c3 .before in
+    let c7 = c4 .before .before .before in
+    flag-inside (c7 .pre .1) (c7 .args .limits .now) (sym (c4 .operand-below .ensures) ∙ not-false _ (c3 .if1 .left))
+    (sym (c2 .operand-below2 .ensures) ∙ not-false _ (c .before .if2 .left)) (c .if3 .taken)
 
 returns-4 : tie.Need-returns-4
-returns-4 c = flag-last (c .before .before .before .before .before .before .before .pre .1) (c .before .before .before .before .before .before .before .args .limits .now) (sym (c .before .before .before .before .operand-below .ensures) ∙ not-false _ (c .before .before .before .if1 .left)) (sym (c .before .before .operand-below2 .ensures) ∙ not-false _ (c .before .if2 .left)) (c .if3 .left)
+returns-4 c =
+    let c2 = c .before .before in
+    let c3 = c2 .before in
+    let c4 = c3 .before in
+    let c7 = c4 .before .before .before in
+    flag-last (c7 .pre .1) (c7 .args .limits .now) (sym (c4 .operand-below .ensures) ∙ not-false _ (c3 .if1 .left))
+    (sym (c2 .operand-below2 .ensures) ∙ not-false _ (c .before .if2 .left)) (c .if3 .left)
 
 pub flag-at-spec : {M : Type 1} → statement M
 flag-at-spec =
@@ -52,7 +62,7 @@ flag-at-spec =
     operand-below-requires-2
     returns-2
     add-if3
-    cast-result
+    (λ c. search needs)
     returns-3
-    cast-result-2
+    (λ c. search needs)
     returns-4)

@@ -19,4 +19,8 @@ fetch-bss-spec =
     (λ c. search needs)
     (λ c. search needs)
     (λ c κs. search needs)
-    (λ c. rw (c .before .before .before .be16 .ensures, c .be162 .ensures) (whole (c .before .before .before .before .before .before .before .before .before .args .bin .now) BSS (c .before .before .before .before .before .before .before .if1 .left))))
+    (λ c.
+    let c3 = c .before .before .before in
+    let c7 = c3 .before .before .before .before in
+    let c9 = c7 .before .before in
+    rw (c3 .be16 .ensures, c .be162 .ensures) (whole (c9 .args .bin .now) BSS (c7 .if1 .left))))

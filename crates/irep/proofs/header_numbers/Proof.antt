@@ -6,7 +6,12 @@ use Rattle.irep.proofs.header_numbers.Statement.{statement}
 use Rattle.irep.proofs.header_numbers.Tie as tie
 
 returns : tie.Need-returns
-returns c = rw (c .before .before .before .before .before .be32-to-u32 .ensures, c .before .before .before .before .be16-to-u16 .ensures, c .before .before .before .be16-to-u162 .ensures, c .before .before .be16-to-u163 .ensures, c .before .be16-to-u164 .ensures, c .be32-to-u322 .ensures)
+returns c =
+    let c2 = c .before .before in
+    let c3 = c2 .before in
+    let c4 = c3 .before in
+    let c5 = c4 .before in
+    rw (c5 .be32-to-u32 .ensures, c4 .be16-to-u16 .ensures, c3 .be16-to-u162 .ensures, c2 .be16-to-u163 .ensures, c .before .be16-to-u164 .ensures, c .be32-to-u322 .ensures)
 
 pub header-numbers-spec : {M : Type 1} → statement M
 header-numbers-spec =

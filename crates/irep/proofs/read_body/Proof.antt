@@ -7,15 +7,31 @@ use Rattle.irep.proofs.read_body.Tie as tie
 
 returns : tie.Need-returns
 unfolding bodyOf
-returns c = rw (← c .before .before .before .before .before .before .before .before .before .before .before .before .before .before .before .before .before .before .before .read-rows .ensures, c .before .before .before .before .before .before .before .before .before .before .before .before .before .before .before .a .given .1, ← c .before .before .before .before .before .before .before .before .before .before .before .before .read-counted .ensures, c .before .before .before .before .before .before .before .before .b .given .1, ← c .before .before .before .before .before .read-counted2 .ensures, c .before .s .given .1)
+returns c =
+    let c5 = c .before .before .before .before .before in
+    let c8 = c5 .before .before .before in
+    let c12 = c8 .before .before .before .before in
+    let c15 = c12 .before .before .before in
+    let c19 = c15 .before .before .before .before in
+    rw (← c19 .read-rows .ensures, c15 .a .given .1, ← c12 .read-counted .ensures, c8 .b .given .1, ← c5 .read-counted2 .ensures, c .before .s .given .1)
 
 returns-2 : tie.Need-returns-2
 unfolding bodyOf
-returns-2 c = rw (← c .before .before .before .before .before .before .before .before .before .before .before .before .before .before .before .before .before .before .before .read-rows .ensures, c .before .before .before .before .before .before .before .before .before .before .before .before .before .before .before .a .given .1, ← c .before .before .before .before .before .before .before .before .before .before .before .before .read-counted .ensures, c .before .before .before .before .before .before .before .before .b .given .1, ← c .before .before .before .before .before .read-counted2 .ensures, c .before .k .given .1)
+returns-2 c =
+    let c5 = c .before .before .before .before .before in
+    let c8 = c5 .before .before .before in
+    let c12 = c8 .before .before .before .before in
+    let c15 = c12 .before .before .before in
+    let c19 = c15 .before .before .before .before in
+    rw (← c19 .read-rows .ensures, c15 .a .given .1, ← c12 .read-counted .ensures, c8 .b .given .1, ← c5 .read-counted2 .ensures, c .before .k .given .1)
 
 returns-3 : tie.Need-returns-3
 unfolding bodyOf
-returns-3 c = rw (← c .before .before .before .before .before .before .before .before .before .before .before .before .read-rows .ensures, c .before .before .before .before .before .before .before .before .a .given .1, ← c .before .before .before .before .before .read-counted .ensures, c .before .k2 .given .1)
+returns-3 c =
+    let c5 = c .before .before .before .before .before in
+    let c8 = c5 .before .before .before in
+    let c12 = c8 .before .before .before .before in
+    rw (← c12 .read-rows .ensures, c8 .a .given .1, ← c5 .read-counted .ensures, c .before .k2 .given .1)
 
 returns-4 : tie.Need-returns-4
 unfolding bodyOf

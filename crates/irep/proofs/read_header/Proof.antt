@@ -8,7 +8,10 @@ use Rattle.irep.proofs.read_header.Statement.{statement}
 use Rattle.irep.proofs.read_header.Tie as tie
 
 returns : tie.Need-returns
-returns c = c .header-numbers .ensures ∙ head-bytes (c .before .before .before .before .before .args .f .now) (c .before .before .before .before .before .args .at) (c .before .before .from-bytes .result) (omega arith) (c .before .before .from-bytes .ensures)
+returns c =
+    let c2 = c .before .before in
+    let c5 = c2 .before .before .before in
+    c .header-numbers .ensures ∙ head-bytes (c5 .args .f .now) (c5 .args .at) (c2 .from-bytes .result) (omega arith) (c2 .from-bytes .ensures)
 
 pub read-header-spec : {M : Type 1} → statement M
 read-header-spec =

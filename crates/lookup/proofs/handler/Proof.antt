@@ -10,13 +10,26 @@ use Rattle.lookup.proofs.handler.Statement.{statement}
 use Rattle.lookup.proofs.handler.Tie as tie
 
 handler-at-requires : tie.Need-handler-at-requires
-handler-at-requires c κs = row-there (c .before .before .before .before .before .before .args .records .now) (c .before .before .before .before .before .before .args .rec) _ (length (c .before .before .before .before .before .before .args .handlers .now) / 4) (c .before .before .before .before .before .before .args .index) _ (ap rowOf (sym (c .before .i .given .1)) ∙ c .before .before .before .record-row .ensures)
+handler-at-requires c κs =
+    let c3 = c .before .before .before in
+    let c6 = c3 .before .before .before in
+    let a = c6 .args in
+    row-there (a .records .now) (a .rec) _ (length (a .handlers .now) / 4) (a .index) _ (ap rowOf (sym (c .before .i .given .1)) ∙ c3 .record-row .ensures)
 
 returns : tie.Need-returns
-returns c = handler-is (c .before .before .before .before .before .args .records .now) (c .before .before .before .before .before .args .records .now) (c .before .before .before .before .before .args .rec) (c .before .before .before .before .before .args .handlers .now) (c .before .before .before .before .before .args .index) _ (ap rowOf (sym (c .enum-told .given .1)) ∙ c .before .before .record-row .ensures)
+returns c =
+    let c2 = c .before .before in
+    let c5 = c2 .before .before .before in
+    let a = c5 .args in
+    handler-is (a .records .now) (a .records .now) (a .rec) (a .handlers .now) (a .index) _ (ap rowOf (sym (c .enum-told .given .1)) ∙ c2 .record-row .ensures)
 
 returns-2 : tie.Need-returns-2
-returns-2 c = c .handler-at .ensures ∙ handler-is (c .before .before .before .before .before .before .before .args .records .now) (c .before .before .before .before .before .before .before .args .records .now) (c .before .before .before .before .before .before .before .args .rec) (c .before .before .before .before .before .before .before .args .handlers .now) (c .before .before .before .before .before .before .before .args .index) _ (ap rowOf (sym (c .before .before .i .given .1)) ∙ c .before .before .before .before .record-row .ensures)
+returns-2 c =
+    let c2 = c .before .before in
+    let c4 = c2 .before .before in
+    let c7 = c4 .before .before .before in
+    let a = c7 .args in
+    c .handler-at .ensures ∙ handler-is (a .records .now) (a .records .now) (a .rec) (a .handlers .now) (a .index) _ (ap rowOf (sym (c2 .i .given .1)) ∙ c4 .record-row .ensures)
 
 pub handler-spec : {M : Type 1} → statement M
 handler-spec =

@@ -10,10 +10,18 @@ use Rattle.lookup.proofs.line.Tie as tie
 
 returns : tie.Need-returns
 unfolding line
-returns c = rw (record-missing (c .before .before .before .before .before .args .records .now) (c .before .before .before .before .before .args .rec) _ (ap wordsOf (sym (c .enum-told .given .1)) ∙ c .before .before .record-words .ensures))
+returns c =
+    let c2 = c .before .before in
+    let c5 = c2 .before .before .before in
+    rw (record-missing (c5 .args .records .now) (c5 .args .rec) _ (ap wordsOf (sym (c .enum-told .given .1)) ∙ c2 .record-words .ensures))
 
 returns-2 : tie.Need-returns-2
-returns-2 c = c .line-in .ensures ∙ line-is (c .before .before .before .before .before .before .before .args .records .now) (c .before .before .before .before .before .before .before .args .lines .now) (c .before .before .before .before .before .before .before .args .rec) (c .before .before .before .before .before .before .before .args .offset .0) _ (ap wordsOf (sym (c .before .before .first .given .1)) ∙ c .before .before .before .before .record-words .ensures)
+returns-2 c =
+    let c2 = c .before .before in
+    let c4 = c2 .before .before in
+    let c7 = c4 .before .before .before in
+    let a = c7 .args in
+    c .line-in .ensures ∙ line-is (a .records .now) (a .lines .now) (a .rec) (a .offset .0) _ (ap wordsOf (sym (c2 .first .given .1)) ∙ c4 .record-words .ensures)
 
 pub line-spec : {M : Type 1} → statement M
 line-spec =

@@ -10,13 +10,26 @@ use Rattle.lookup.proofs.pool.Statement.{statement}
 use Rattle.lookup.proofs.pool.Tie as tie
 
 constant-at-requires : tie.Need-constant-at-requires
-constant-at-requires c κs = row-there (c .before .before .before .before .before .before .before .args .records .now) (c .before .before .before .before .before .before .before .args .rec) _ (length (c .before .before .before .before .before .before .before .args .pool .now) / 3) (c .before .before .before .before .before .before .before .args .index) _ (ap rowOf (sym (c .before .i .given .1)) ∙ c .before .before .before .record-row .ensures)
+constant-at-requires c κs =
+    let c3 = c .before .before .before in
+    let c7 = c3 .before .before .before .before in
+    let a = c7 .args in
+    row-there (a .records .now) (a .rec) _ (length (a .pool .now) / 3) (a .index) _ (ap rowOf (sym (c .before .i .given .1)) ∙ c3 .record-row .ensures)
 
 returns : tie.Need-returns
-returns c = pool-is (c .before .before .before .before .before .before .args .f .now) (c .before .before .before .before .before .before .args .records .now) (c .before .before .before .before .before .before .args .rec) (c .before .before .before .before .before .before .args .pool .now) (c .before .before .before .before .before .before .args .index) _ (ap rowOf (sym (c .enum-told .given .1)) ∙ c .before .before .record-row .ensures)
+returns c =
+    let c2 = c .before .before in
+    let c6 = c2 .before .before .before .before in
+    let a = c6 .args in
+    pool-is (a .f .now) (a .records .now) (a .rec) (a .pool .now) (a .index) _ (ap rowOf (sym (c .enum-told .given .1)) ∙ c2 .record-row .ensures)
 
 returns-2 : tie.Need-returns-2
-returns-2 c = c .constant-at .ensures ∙ pool-is (c .before .before .before .before .before .before .before .before .args .f .now) (c .before .before .before .before .before .before .before .before .args .records .now) (c .before .before .before .before .before .before .before .before .args .rec) (c .before .before .before .before .before .before .before .before .args .pool .now) (c .before .before .before .before .before .before .before .before .args .index) _ (ap rowOf (sym (c .before .before .i .given .1)) ∙ c .before .before .before .before .record-row .ensures)
+returns-2 c =
+    let c2 = c .before .before in
+    let c4 = c2 .before .before in
+    let c8 = c4 .before .before .before .before in
+    let a = c8 .args in
+    c .constant-at .ensures ∙ pool-is (a .f .now) (a .records .now) (a .rec) (a .pool .now) (a .index) _ (ap rowOf (sym (c2 .i .given .1)) ∙ c4 .record-row .ensures)
 
 pub pool-spec : {M : Type 1} → statement M
 pool-spec =

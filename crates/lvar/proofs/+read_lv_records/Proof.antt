@@ -50,16 +50,21 @@ began : (t : ℕ) (c : lts.After-known-told2 (claims t) (at t) read-lv-records.P
     × (lvWalk (a .f .now) (a .strings) (a .count) 1 (state (a .at) (a .rec) (a .used) (a .records .now) (a .names .now))
     ≡ lvWalk (a .f .now) (a .strings) (a .count) (getD (a .records .now) (a .rec * 19 + 3) 0) (state (v .0) (v .1 .0) (v .1 .1 .0) (call .last .1 .0) (call .last .1 .1 .0)))
 began t c =
-    let a = c .before .before .before .before .before .before .before .before .before .before .before .before .before .before .before .args in
+    let c7 = c .before .before .before .before .before .before .before in
+    let c11 = c7 .before .before .before .before in
+    let c15 = c11 .before .before .before .before in
+    let a = c15 .args in
     let v = c .before .a1 .given .0 in
-    let call = c .before .before .before .before .before .before .before .read-record in
+    let call = c7 .read-record in
     let st = state (a .at) (a .rec) (a .used) (a .records .now) (a .names .now) in
     let o = outOf (Next (v .0) (v .1 .0) (v .1 .1 .0)) (call .last .1 .0) (call .last .1 .1 .0) in
     let e : o ≡ lvStep (a .f .now) (a .strings) st = ap (λ r. outOf r (call .last .1 .0) (call .last .1 .1 .0)) (sym (c .before .a1 .given .1)) ∙ call .ensures in
-    (lv-next (a .f .now) (a .strings) st _ (sym e), lv-one (a .f .now) (a .strings) (a .count) st o (c .before .before .before .before .before .before .before .before .before .before .before .if1 .left) e)
+    (lv-next (a .f .now) (a .strings) st _ (sym e), lv-one (a .f .now) (a .strings) (a .count) st o (c11 .if1 .left) e)
 
 returns : (t : ℕ) → lts.Need-returns (claims t) (at t) read-lv-records.Post Inv-loop μ-loop
-returns t c = let a = c .before .before .before .before .args in sym (lv-past (a .f .now) (a .strings) (a .count) 1 (state (a .at) (a .rec) (a .used) (a .records .now) (a .names .now)) (c .if1 .taken))
+returns t c =
+    let c4 = c .before .before .before .before in
+    let a = c4 .args in sym (lv-past (a .f .now) (a .strings) (a .count) 1 (state (a .at) (a .rec) (a .used) (a .records .now) (a .names .now)) (c .if1 .taken))
 
 loop-holds : (t : ℕ) → lts.Need-loop-holds (claims t) (at t) read-lv-records.Post Inv-loop μ-loop
 loop-holds t c = let n = began t c .0 in (refl, refl, omega arith, omega arith, rw sub-zero)
@@ -73,35 +78,55 @@ returns-2 t c =
 
 read-lv-records-requires : (t : ℕ) → lts.Need-read-lv-records-requires (claims t) (at t) read-lv-records.Post Inv-loop μ-loop
 read-lv-records-requires t c κs =
-    let l = c .before .before .before .before .loop in
-    let p = c .before .before .before .before .before .before .before .before .before .before .before .before .before .before .before .before .before .before .before .before .pre in
-    let call = c .before .before .before .before .before .before .before .before .before .before .before .before .read-record in
-    (omega (arith, p .0, l .inv .3, c .before .before .before .before .before .before .before .before .before .before .before .before .before .before .before .before .if1 .left), (p .1 .0, omega (arith, p .1 .1, l .inv .0, call .kept .1 .0)))
+    let c4 = c .before .before .before .before in
+    let c12 = c4 .before .before .before .before .before .before .before .before in
+    let c16 = c12 .before .before .before .before in
+    let c20 = c16 .before .before .before .before in
+    let l = c4 .loop in
+    let p = c20 .pre in
+    let call = c12 .read-record in
+    (omega (arith, p .0, l .inv .3, c16 .if1 .left), (p .1 .0, omega (arith, p .1 .1, l .inv .0, call .kept .1 .0)))
 
 returns-3 : (t : ℕ) → lts.Need-returns-3 (claims t) (at t) read-lv-records.Post Inv-loop μ-loop
 returns-3 t c =
-    let call = c .before .before .before .before .before .before .before .read-lv-records in
-    let l = c .before .before .before .before .before .before .before .before .before .before .before .before .loop in
-    let a = c .before .before .before .before .before .before .before .before .before .before .before .before .before .before .before .before .before .before .before .before .before .before .before .before .before .before .before .before .args in
-    sym (began t (c .before .before .before .before .before .before .before .before .before .before .before .before .before) .1 ∙ l .inv .4
+    let c7 = c .before .before .before .before .before .before .before in
+    let c11 = c7 .before .before .before .before in
+    let c12 = c11 .before in
+    let c13 = c12 .before in
+    let c28 = c13 .before .before .before .before .before .before .before .before .before .before .before .before .before .before .before in
+    let call = c7 .read-lv-records in
+    let l = c12 .loop in
+    let a = c28 .args in
+    sym (began t (c13) .1 ∙ l .inv .4
     ∙ lv-child (a .f .now) (a .strings) (a .count) (getD (a .records .now) (a .rec * 19 + 3) 0) (l .child) (state (l .a) (l .r) (l .u) (l .records) (l .names))
-    (outOf (Refused (c .before .k2 .given .0 .0)) (call .last .1 .0) (call .last .1 .1 .0)) (c .before .before .before .before .before .before .before .before .before .before .before .loop-test .taken)
+    (outOf (Refused (c .before .k2 .given .0 .0)) (call .last .1 .0) (call .last .1 .1 .0)) (c11 .loop-test .taken)
     (ap (λ r. outOf r (call .last .1 .0) (call .last .1 .1 .0)) (sym (c .before .k2 .given .1)) ∙ call .ensures))
 
 add-child : (t : ℕ) → lts.Need-add-child (claims t) (at t) read-lv-records.Post Inv-loop μ-loop
-add-child t c = omega (arith, c .before .before .before .before .before .before .before .before .before .before .before .before .before .before .before .before .before .before .before .before .before .before .before .slice-known3 .given (c .before .before .before .before .before .before .before .before .before .before .before .before .before .before .before .before .before .before .before .before .before .before .before .before .before .before .before .before .args .rec * 19 + 3))
+add-child t c =
+    omega (
+      arith,
+      c .before .before .before .before .before .before .before .before .before .before .before .before .before .before .before
+          .before .before .before .before .before .before .before .before .slice-known3 .given
+          (c .before .before .before .before .before .before .before .before .before .before .before .before .before .before .before
+          .before .before .before .before .before .before .before .before .before .before .before .before .before .args .rec * 19 + 3),
+    )
 
 loop-again : (t : ℕ) → lts.Need-loop-again (claims t) (at t) read-lv-records.Post Inv-loop μ-loop
 loop-again t c =
-    let call = c .before .before .before .before .before .before .before .read-lv-records in
-    let l = c .before .before .before .before .before .before .before .before .before .before .before .before .loop in
-    let a = c .before .before .before .before .before .before .before .before .before .before .before .before .before .before .before .before .before .before .before .before .before .before .before .before .before .before .before .before .args in
+    let c7 = c .before .before .before .before .before .before .before in
+    let c11 = c7 .before .before .before .before in
+    let c12 = c11 .before in
+    let c28 = c12 .before .before .before .before .before .before .before .before .before .before .before .before .before .before .before .before in
+    let call = c7 .read-lv-records in
+    let l = c12 .loop in
+    let a = c28 .args in
     let v = c .before .a2 .given .0 in
     let st = state (l .a) (l .r) (l .u) (l .records) (l .names) in
     let o = outOf (Next (v .0) (v .1 .0) (v .1 .1 .0)) (call .last .1 .0) (call .last .1 .1 .0) in
     let e : o ≡ lvWalk (a .f .now) (a .strings) (a .count) 1 st = ap (λ r. outOf r (call .last .1 .0) (call .last .1 .1 .0)) (sym (c .before .a2 .given .1)) ∙ call .ensures in
     let h : l .r ≤ v .1 .0 = lv-rec (a .f .now) (a .strings) (a .count) 1 st _ e in
-    let taken = c .before .before .before .before .before .before .before .before .before .before .before .loop-test .taken in (
+    let taken = c11 .loop-test .taken in (
       call .kept .1 .0 ∙ l .inv .0,
       call .kept .1 .1 .0 ∙ l .inv .1,
       omega arith,

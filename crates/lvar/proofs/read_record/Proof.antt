@@ -19,13 +19,26 @@ cast-read-rows : tie.Need-cast-read-rows
 cast-read-rows c = omega (arith, c .before .slice-known3 .given (c .before .before .before .before .before .args .rec * 19 + 1))
 
 returns-2 : tie.Need-returns-2
-returns-2 c = let a = c .before .before .before .before .before .before .before .before .before .before .before .before .before .before .before .before .before .args in let t = c .before .before .before .before .before .before .before .before .before .before .read-rows .last .1 .1 .1 .1 .1 .0 in
-    rw (c .before .before .put-names .ensures, c .before .before .before .first-row .ensures)
-    (lv-step (a .f .now) (a .strings) (state (a .at) (a .rec) (a .used) (a .records .now) (a .names .now)) _ t (c .before .before .before .before .before .before .before .before .before .before .before .before .if1 .left) (ap (λ r. out r t) (sym (c .before .before .before .before .before .before .next .given .1)) ∙ c .before .before .before .before .before .before .before .before .before .before .read-rows .ensures))
+returns-2 c =
+    let c2 = c .before .before in
+    let c3 = c2 .before in
+    let c6 = c3 .before .before .before in
+    let c10 = c6 .before .before .before .before in
+    let c12 = c10 .before .before in
+    let c17 = c12 .before .before .before .before .before in
+    let a = c17 .args in let t = c10 .read-rows .last .1 .1 .1 .1 .1 .0 in
+    rw (c2 .put-names .ensures, c3 .first-row .ensures)
+    (lv-step (a .f .now) (a .strings) (state (a .at) (a .rec) (a .used) (a .records .now) (a .names .now)) _ t (c12 .if1 .left)
+    (ap (λ r. out r t) (sym (c6 .next .given .1)) ∙ c10 .read-rows .ensures))
 
 returns-3 : tie.Need-returns-3
-returns-3 c = let a = c .before .before .before .before .before .before .before .before .before .before .before .before .args in let t = c .before .before .before .before .before .read-rows .last .1 .1 .1 .1 .1 .0 in
-    lv-step (a .f .now) (a .strings) (state (a .at) (a .rec) (a .used) (a .records .now) (a .names .now)) _ t (c .before .before .before .before .before .before .before .if1 .left) (ap (λ r. out r t) (sym (c .before .k .given .1)) ∙ c .before .before .before .before .before .read-rows .ensures)
+returns-3 c =
+    let c5 = c .before .before .before .before .before in
+    let c7 = c5 .before .before in
+    let c12 = c7 .before .before .before .before .before in
+    let a = c12 .args in let t = c5 .read-rows .last .1 .1 .1 .1 .1 .0 in
+    lv-step (a .f .now) (a .strings) (state (a .at) (a .rec) (a .used) (a .records .now) (a .names .now)) _ t (c7 .if1 .left)
+    (ap (λ r. out r t) (sym (c .before .k .given .1)) ∙ c5 .read-rows .ensures)
 
 pub read-record-spec : {M : Type 1} → statement M
 read-record-spec =

@@ -15,15 +15,34 @@ returns-2 c = rw (← c .before .before .before .is-mark .ensures, c .before .be
 
 returns-3 : tie.Need-returns-3
 unfolding markOf
-returns-3 c = rw (← c .before .before .before .before .before .is-mark .ensures, c .before .before .before .before .if1 .left, ← c .before .before .before .is-mark2 .ensures, c .before .before .if2 .left, ← c .before .is-mark3 .ensures, c .if3 .taken)
+returns-3 c =
+    let c2 = c .before .before in
+    let c3 = c2 .before in
+    let c4 = c3 .before in
+    let c5 = c4 .before in
+    rw (← c5 .is-mark .ensures, c4 .if1 .left, ← c3 .is-mark2 .ensures, c2 .if2 .left, ← c .before .is-mark3 .ensures, c .if3 .taken)
 
 returns-4 : tie.Need-returns-4
 unfolding markOf
-returns-4 c = rw (← c .before .before .before .before .before .before .before .is-mark .ensures, c .before .before .before .before .before .before .if1 .left, ← c .before .before .before .before .before .is-mark2 .ensures, c .before .before .before .before .if2 .left, ← c .before .before .before .is-mark3 .ensures, c .before .before .if3 .left, ← c .before .is-mark4 .ensures, c .if4 .taken)
+returns-4 c =
+    let c2 = c .before .before in
+    let c3 = c2 .before in
+    let c4 = c3 .before in
+    let c5 = c4 .before in
+    let c6 = c5 .before in
+    let c7 = c6 .before in
+    rw (← c7 .is-mark .ensures, c6 .if1 .left, ← c5 .is-mark2 .ensures, c4 .if2 .left, ← c3 .is-mark3 .ensures, c2 .if3 .left, ← c .before .is-mark4 .ensures, c .if4 .taken)
 
 returns-5 : tie.Need-returns-5
 unfolding markOf
-returns-5 c = rw (← c .before .before .before .before .before .before .before .is-mark .ensures, c .before .before .before .before .before .before .if1 .left, ← c .before .before .before .before .before .is-mark2 .ensures, c .before .before .before .before .if2 .left, ← c .before .before .before .is-mark3 .ensures, c .before .before .if3 .left, ← c .before .is-mark4 .ensures, c .if4 .left)
+returns-5 c =
+    let c2 = c .before .before in
+    let c3 = c2 .before in
+    let c4 = c3 .before in
+    let c5 = c4 .before in
+    let c6 = c5 .before in
+    let c7 = c6 .before in
+    rw (← c7 .is-mark .ensures, c6 .if1 .left, ← c5 .is-mark2 .ensures, c4 .if2 .left, ← c3 .is-mark3 .ensures, c2 .if3 .left, ← c .before .is-mark4 .ensures, c .if4 .left)
 
 pub peek4-spec : {M : Type 1} → statement M
 peek4-spec =

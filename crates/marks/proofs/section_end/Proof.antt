@@ -23,14 +23,22 @@ returns-2 c = let f = c .before .before .before .before .before .before .args .f
 
 returns-3 : tie.Need-returns-3
 unfolding endSection
-returns-3 c = let f = c .before .before .before .before .before .before .before .args .f .now in
-    let h = field-there f 0 8 (u32At f 4) (c .before .before .before .size .given .0 .0) (ap field32Of (sym (c .before .before .before .size .given .1)) ∙ c .before .before .before .before .before .section-size .ensures) in
+returns-3 c =
+    let c3 = c .before .before .before in
+    let c5 = c3 .before .before in
+    let c7 = c5 .before .before in
+    let f = c7 .args .f .now in
+    let h = field-there f 0 8 (u32At f 4) (c3 .size .given .0 .0) (ap field32Of (sym (c3 .size .given .1)) ∙ c5 .section-size .ensures) in
     rw (h .0, ← h .1, ne-eqb _ _ (c .before .if1 .left), lt-leb _ _ (c .if2 .taken))
 
 returns-4 : tie.Need-returns-4
 unfolding endSection
-returns-4 c = let f = c .before .before .before .before .before .before .before .args .f .now in
-    let h = field-there f 0 8 (u32At f 4) (c .before .before .before .size .given .0 .0) (ap field32Of (sym (c .before .before .before .size .given .1)) ∙ c .before .before .before .before .before .section-size .ensures) in
+returns-4 c =
+    let c3 = c .before .before .before in
+    let c5 = c3 .before .before in
+    let c7 = c5 .before .before in
+    let f = c7 .args .f .now in
+    let h = field-there f 0 8 (u32At f 4) (c3 .size .given .0 .0) (ap field32Of (sym (c3 .size .given .1)) ∙ c5 .section-size .ensures) in
     rw (h .0, ← h .1, ne-eqb _ _ (c .before .if1 .left), le-leb _ _ (c .if2 .left))
 
 pub section-end-spec : {M : Type 1} → statement M

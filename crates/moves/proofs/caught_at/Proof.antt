@@ -9,7 +9,11 @@ returns : tie.Need-returns
 returns c = let a = c .before .before .args in caught-bad (a .choices .now) (a .i) (c .before .before .pre .0) (c .if1 .taken) (c .before .before .pre .1)
 
 returns-2 : tie.Need-returns-2
-returns-2 c = let a = c .before .before .before .before .before .before .args in caught-next (a .choices .now) (a .i) (c .before .before .before .before .before .before .pre .0) (c .before .before .before .before .if1 .left) (c .before .before .before .before .before .before .pre .1) _ _ (c .before .before .wide .ensures .0) (c .wide2 .ensures .0)
+returns-2 c =
+    let c2 = c .before .before in
+    let c4 = c2 .before .before in
+    let c6 = c4 .before .before in
+    let a = c6 .args in caught-next (a .choices .now) (a .i) (c6 .pre .0) (c4 .if1 .left) (c6 .pre .1) _ _ (c2 .wide .ensures .0) (c .wide2 .ensures .0)
 
 pub caught-at-spec : {M : Type 1} → statement M
 caught-at-spec =

@@ -23,7 +23,10 @@ add-trees : tie.Need-add-trees Inv-loop μ-loop
 add-trees c = omega (arith, c .word .ensures .1, c .before .before .before .loop .inv .bounded, c .before .before .before .before .before .pre .0)
 
 loop-again : tie.Need-loop-again Inv-loop μ-loop
-loop-again c = seeking-turn (c .before .before .before .loop .i) (c .before .before .before .loop .trees) _ (c .before .before .loop-test .taken) (c .before .if1 .left) (c .word .ensures .0) (c .word .ensures .1) (c .before .before .before .loop .inv)
+loop-again c =
+    let c2 = c .before .before in
+    let c3 = c2 .before in
+    seeking-turn (c3 .loop .i) (c3 .loop .trees) _ (c2 .loop-test .taken) (c .before .if1 .left) (c .word .ensures .0) (c .word .ensures .1) (c3 .loop .inv)
 
 returns-2 : tie.Need-returns-2 Inv-loop μ-loop
 returns-2 c = seeking-end (c .before .loop .i) (c .before .loop .trees) (c .loop-test .left) (c .before .loop .inv)

@@ -20,7 +20,9 @@ returns-5 : tie.Need-returns-5
 returns-5 c = let a = c .before .before .before .args in kind-next (a .choices .now) (a .i) (c .before .before .before .pre) Leave 4 (c .match .keys5) refl (λ r. refl)
 
 returns-6 : tie.Need-returns-6
-returns-6 c = let a = c .before .before .before .args in let r = c .match .rest in kind-bad (a .choices .now) (a .i) (c .before .before .before .pre) (r .0 .0 .0 .0 .1) (r .0 .0 .0 .1) (r .0 .0 .1) (r .0 .1) (r .1)
+returns-6 c =
+    let c3 = c .before .before .before in
+    let a = c3 .args in let r = c .match .rest in kind-bad (a .choices .now) (a .i) (c3 .pre) (r .0 .0 .0 .0 .1) (r .0 .0 .0 .1) (r .0 .0 .1) (r .0 .1) (r .1)
 
 pub choice-at-spec : {M : Type 1} → statement M
 choice-at-spec =

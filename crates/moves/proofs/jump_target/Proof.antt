@@ -20,19 +20,39 @@ shared-slice-read-wide-2 : tie.Need-shared-slice-read-wide-2
 shared-slice-read-wide-2 c = omega (arith, room (c .before .before .before .before .before .pre), c .before .before .before .next-offset .ensures)
 
 add-result : tie.Need-add-result
-add-result c = omega (arith, room (c .before .before .before .before .before .before .before .pre), c .before .before .before .before .before .next-offset .ensures, c .before .before .before .wide .ensures, c .before .wide2 .ensures)
+add-result c =
+    let c3 = c .before .before .before in
+    let c5 = c3 .before .before in
+    let c7 = c5 .before .before in
+    omega (arith, room (c7 .pre), c5 .next-offset .ensures, c3 .wide .ensures, c .before .wide2 .ensures)
 
 add-result-2 : tie.Need-add-result-2
-add-result-2 c = omega (arith, room (c .before .before .before .before .before .before .before .pre), c .before .before .before .before .before .next-offset .ensures, c .before .before .before .wide .ensures, c .before .wide2 .ensures)
+add-result-2 c =
+    let c3 = c .before .before .before in
+    let c5 = c3 .before .before in
+    let c7 = c5 .before .before in
+    omega (arith, room (c7 .pre), c5 .next-offset .ensures, c3 .wide .ensures, c .before .wide2 .ensures)
 
 sub-result : tie.Need-sub-result
-sub-result c = not-before (c .before .before .before .before .before .before .before .pre) (c .before .before .before .before .before .next-offset .ensures) (c .before .before .before .wide .ensures .0) (c .before .wide2 .ensures .0) (c .if1 .left)
+sub-result c =
+    let c3 = c .before .before .before in
+    let c5 = c3 .before .before in
+    let c7 = c5 .before .before in
+    not-before (c7 .pre) (c5 .next-offset .ensures) (c3 .wide .ensures .0) (c .before .wide2 .ensures .0) (c .if1 .left)
 
 returns : tie.Need-returns
-returns c = target-low (c .before .before .before .before .before .before .before .pre) (c .before .before .before .before .before .next-offset .ensures) (c .before .before .before .wide .ensures .0) (c .before .wide2 .ensures .0) (c .if1 .taken)
+returns c =
+    let c3 = c .before .before .before in
+    let c5 = c3 .before .before in
+    let c7 = c5 .before .before in
+    target-low (c7 .pre) (c5 .next-offset .ensures) (c3 .wide .ensures .0) (c .before .wide2 .ensures .0) (c .if1 .taken)
 
 returns-2 : tie.Need-returns-2
-returns-2 c = target-high (c .before .before .before .before .before .before .before .pre) (c .before .before .before .before .before .next-offset .ensures) (c .before .before .before .wide .ensures .0) (c .before .wide2 .ensures .0) (c .if1 .left)
+returns-2 c =
+    let c3 = c .before .before .before in
+    let c5 = c3 .before .before in
+    let c7 = c5 .before .before in
+    target-high (c7 .pre) (c5 .next-offset .ensures) (c3 .wide .ensures .0) (c .before .wide2 .ensures .0) (c .if1 .left)
 
 pub jump-target-spec : {M : Type 1} → statement M
 jump-target-spec =

@@ -9,7 +9,10 @@ returns : tie.Need-returns
 returns c = rw (← c .before .rest .ensures, lt-leb _ _ (c .if1 .taken))
 
 returns-2 : tie.Need-returns-2
-returns-2 c = rw (← c .before .before .before .before .before .before .before .before .before .before .rest .ensures, le-leb _ _ (c .before .before .before .before .before .before .before .before .before .if1 .left), c .le64-to-u64 .ensures)
+returns-2 c =
+    let c9 = c .before .before .before .before .before .before .before .before .before in
+    let c10 = c9 .before in
+    rw (← c10 .rest .ensures, le-leb _ _ (c9 .if1 .left), c .le64-to-u64 .ensures)
 
 pub le64-at-spec : {M : Type 1} → statement M
 le64-at-spec =

@@ -9,12 +9,21 @@ use Rattle.ranges.proofs.record_row.Tie as tie
 
 returns : tie.Need-returns
 unfolding recordRow
-returns c = let e : wordsOf Missing ≡ recordWords (c .before .before .before .before .args .records .now) (c .before .before .before .before .args .rec) (c .before .before .before .before .args .k) = ap wordsOf (sym (c .enum-told .given .1)) ∙ c .before .before .record-words .ensures in rw (← e)
+returns c =
+    let c2 = c .before .before in
+    let c4 = c2 .before .before in
+    let a = c4 .args in
+    let e : wordsOf Missing ≡ recordWords (a .records .now) (a .rec) (a .k) = ap wordsOf (sym (c .enum-told .given .1)) ∙ c2 .record-words .ensures in rw (← e)
 
 returns-2 : tie.Need-returns-2
 unfolding recordRow
-returns-2 c = let v = c .before .before .first .given in
-    let e : wordsOf (At (v .0 .0) (v .0 .1 .0)) ≡ recordWords (c .before .before .before .before .before .before .args .records .now) (c .before .before .before .before .before .before .args .rec) (c .before .before .before .before .before .before .args .k) = ap wordsOf (sym (v .1)) ∙ c .before .before .before .before .record-words .ensures in
+returns-2 c =
+    let c2 = c .before .before in
+    let c4 = c2 .before .before in
+    let c6 = c4 .before .before in
+    let a = c6 .args in
+    let v = c2 .first .given in
+    let e : wordsOf (At (v .0 .0) (v .0 .1 .0)) ≡ recordWords (a .records .now) (a .rec) (a .k) = ap wordsOf (sym (v .1)) ∙ c4 .record-words .ensures in
     rw (← e) (c .row-among .ensures)
 
 pub record-row-spec : {M : Type 1} → statement M

@@ -18,7 +18,10 @@ returns-2 c = row-past (c .before .before .args .rows) (range (c .before .before
 
 returns-3 : tie.Need-returns-3
 unfolding rowAmong
-returns-3 c = rw (lt-ltb (c .before .before .args .index) (c .before .before .args .number) (omega (arith, c .before .if1 .left)), lt-ltb (c .before .before .args .first + c .before .before .args .index) (c .before .before .args .rows) (omega (arith, c .if2 .left)))
+returns-3 c =
+    let c2 = c .before .before in
+    let a = c2 .args in
+    rw (lt-ltb (a .index) (a .number) (omega (arith, c .before .if1 .left)), lt-ltb (a .first + a .index) (a .rows) (omega (arith, c .if2 .left)))
 
 pub row-among-spec : {M : Type 1} → statement M
 row-among-spec = tie.close (tie.spec returns (λ c. search needs) returns-2 returns-3)

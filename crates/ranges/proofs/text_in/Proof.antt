@@ -16,7 +16,10 @@ returns c = rw (le-ltb (c .before .before .before .args .i) (length (c .before .
 
 returns-2 : tie.Need-returns-2
 unfolding textIn
-returns-2 c = rw (lt-ltb (c .before .before .before .before .before .before .args .i) (length (c .before .before .before .before .before .before .args .texts .now) / 2) (omega (arith, c .before .before .before .if1 .left)), add-zero) (c .bytes-in .ensures)
+returns-2 c =
+    let c3 = c .before .before .before in
+    let c6 = c3 .before .before .before in
+    rw (lt-ltb (c6 .args .i) (length (c6 .args .texts .now) / 2) (omega (arith, c3 .if1 .left)), add-zero) (c .bytes-in .ensures)
 
 pub text-in-spec : {M : Type 1} → statement M
 text-in-spec =

@@ -22,7 +22,11 @@ returns : tie.Need-returns Inv-loop μ-loop
 returns c = let l = c .before .before .before .loop in noZero-stop (now (c .before .before .before .before .args .f)) (l .left) (l .i) (c .before .before .loop-test .taken) (c .if1 .taken) ∙ l .inv .1
 
 loop-again : tie.Need-loop-again Inv-loop μ-loop
-loop-again c = let l = c .before .before .before .loop in (omega arith, noZero-more (now (c .before .before .before .before .args .f)) (l .left) (l .i) (c .before .before .loop-test .taken) (c .if1 .left) ∙ l .inv .1)
+loop-again c =
+    let c2 = c .before .before in
+    let c3 = c2 .before in
+    let c4 = c3 .before in
+    let l = c3 .loop in (omega arith, noZero-more (now (c4 .args .f)) (l .left) (l .i) (c2 .loop-test .taken) (c .if1 .left) ∙ l .inv .1)
 
 returns-2 : tie.Need-returns-2 Inv-loop μ-loop
 returns-2 c = let l = c .before .loop in noZero-done (now (c .before .before .args .f)) (l .left) (l .i) (c .loop-test .left) ∙ l .inv .1

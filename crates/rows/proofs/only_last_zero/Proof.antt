@@ -19,10 +19,18 @@ loop-holds : tie.Need-loop-holds Inv-loop μ-loop
 loop-holds c = (refl, refl)
 
 returns : tie.Need-returns Inv-loop μ-loop
-returns c = let l = c .before .before .before .loop in zeroLast-stop (now (c .before .before .before .before .args .f)) (l .left) (l .i) (c .before .before .loop-test .taken) (c .if1 .taken) ∙ l .inv .1
+returns c =
+    let c2 = c .before .before in
+    let c3 = c2 .before in
+    let c4 = c3 .before in
+    let l = c3 .loop in zeroLast-stop (now (c4 .args .f)) (l .left) (l .i) (c2 .loop-test .taken) (c .if1 .taken) ∙ l .inv .1
 
 loop-again : tie.Need-loop-again Inv-loop μ-loop
-loop-again c = let l = c .before .before .before .loop in (omega arith, zeroLast-more (now (c .before .before .before .before .args .f)) (l .left) (l .i) (c .before .before .loop-test .taken) (c .if1 .left) ∙ l .inv .1)
+loop-again c =
+    let c2 = c .before .before in
+    let c3 = c2 .before in
+    let c4 = c3 .before in
+    let l = c3 .loop in (omega arith, zeroLast-more (now (c4 .args .f)) (l .left) (l .i) (c2 .loop-test .taken) (c .if1 .left) ∙ l .inv .1)
 
 returns-2 : tie.Need-returns-2 Inv-loop μ-loop
 returns-2 c = let l = c .before .before .loop in zeroLast-done (now (c .before .before .before .args .f)) (l .left) (l .i) (c .before .loop-test .left) ∙ l .inv .1

@@ -26,9 +26,19 @@ returns-4 c = rw (c .before .match .keys4) (c .big-integer .ensures)
 
 returns-5 : tie.Need-returns-5
 unfolding poolValueOf poolValue textOf bigIntegerOf
-returns-5 c = let r = c .match .rest in
-    let k = c .before .before .args .kind in
-    rw (ne-eqb k 0 (λ e. r .0 .0 .0 .1 (inl e)), ne-eqb k 2 (λ e. r .0 .0 .0 .1 (inr e)), ne-eqb k 1 (r .0 .0 .1), ne-eqb k 3 (λ e. r .0 .1 (inl e)), ne-eqb k 5 (λ e. r .0 .1 (inr e)), ne-eqb k 7 (r .1))
+returns-5 c =
+    let c2 = c .before .before in
+    let r = c .match .rest in
+    let k = c2 .args .kind in
+    rw (
+      ne-eqb k 0 (λ e. r .0 .0 .0 .1 (inl e)),
+      ne-eqb k 2 (λ e. r .0 .0 .0 .1 (inr e)),
+      ne-eqb k 1 (r .0 .0 .1),
+      ne-eqb k 3 (λ e. r .0 .1 (inl e)),
+      ne-eqb k 5
+          (λ e. r .0 .1 (inr e)),
+      ne-eqb k 7 (r .1),
+    )
 
 pub pool-value-spec : {M : Type 1} → statement M
 pool-value-spec =

@@ -12,7 +12,12 @@ returns c = rw (← c .before .rest .ensures, lt-leb _ _ (c .if1 .taken))
 
 returns-2 : tie.Need-returns-2
 unfolding countedOf
-returns-2 c = rw (← c .before .before .before .before .before .before .rest .ensures, le-leb _ _ (c .before .before .before .before .before .if1 .left), ← c .before .before .before .before .u16-in .ensures) (c .before .before .read-rows .ensures)
+returns-2 c =
+    let c2 = c .before .before in
+    let c4 = c2 .before .before in
+    let c5 = c4 .before in
+    let c6 = c5 .before in
+    rw (← c6 .rest .ensures, le-leb _ _ (c5 .if1 .left), ← c4 .u16-in .ensures) (c2 .read-rows .ensures)
 
 pub read-counted-spec : {M : Type 1} → statement M
 read-counted-spec =

@@ -20,14 +20,26 @@ loop-holds : tie.Need-loop-holds Inv-loop μ-loop
 loop-holds c = (refl, refl)
 
 returns : tie.Need-returns Inv-loop μ-loop
-returns c = let l = c .before .before .before .before .before .before .before .before .loop in let a = c .before .before .before .before .before .before .before .before .before .before .before .args in
-    times-no (rowOf (a .f .now) (a .base) (a .row)) (l .left) (l .place) (l .rows) (l .t) (c .before .before .before .before .before .read-row .result) (c .before .before .before .before .before .read-row .last .1 .1 .1 .1 .0) (c .before .k .given .0 .0) (c .before .before .before .before .before .before .before .loop-test .taken) (c .before .before .before .before .before .read-row .ensures) (c .before .k .given .1) ∙ l .inv .1
+returns c =
+    let c5 = c .before .before .before .before .before in
+    let c7 = c5 .before .before in
+    let c8 = c7 .before in
+    let c11 = c8 .before .before .before in
+    let l = c8 .loop in let a = c11 .args in
+    times-no (rowOf (a .f .now) (a .base) (a .row)) (l .left) (l .place) (l .rows) (l .t) (c5 .read-row .result) (c5 .read-row .last .1 .1 .1 .1 .0)
+    (c .before .k .given .0 .0) (c7 .loop-test .taken) (c5 .read-row .ensures) (c .before .k .given .1) ∙ l .inv .1
 
 loop-again : tie.Need-loop-again Inv-loop μ-loop
-loop-again c = let l = c .before .before .before .before .before .before .before .before .loop in let a = c .before .before .before .before .before .before .before .before .before .before .before .args in (
-  c .before .before .before .before .before .read-row .kept .1 .1 .1 .1 .0 ∙ l .inv .0,
-  times-go (rowOf (a .f .now) (a .base) (a .row)) (l .left) (l .place) (l .rows) (l .t) (c .before .before .before .before .before .read-row .result) (c .before .before .before .before .before .read-row .last .1 .1 .1 .1 .0) (c .before .next .given .0 .0) (c .before .next .given .0 .1 .0) (c .before .before .before .before .before .before .before .loop-test .taken) (c .before .before .before .before .before .read-row .ensures) (c .before .next .given .1) ∙ l .inv .1,
-)
+loop-again c =
+    let c5 = c .before .before .before .before .before in
+    let c7 = c5 .before .before in
+    let c8 = c7 .before in
+    let c11 = c8 .before .before .before in
+    let l = c8 .loop in let a = c11 .args in (
+      c5 .read-row .kept .1 .1 .1 .1 .0 ∙ l .inv .0,
+      times-go (rowOf (a .f .now) (a .base) (a .row)) (l .left) (l .place) (l .rows) (l .t) (c5 .read-row .result) (c5 .read-row .last .1 .1 .1 .1 .0)
+          (c .before .next .given .0 .0) (c .before .next .given .0 .1 .0) (c7 .loop-test .taken) (c5 .read-row .ensures) (c .before .next .given .1) ∙ l .inv .1,
+    )
 
 returns-2 : tie.Need-returns-2 Inv-loop μ-loop
 returns-2 c = let l = c .before .loop in let a = c .before .before .before .before .args in

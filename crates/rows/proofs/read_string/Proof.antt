@@ -7,7 +7,11 @@ use Rattle.rows.proofs.read_string.Tie as tie
 
 returns : tie.Need-returns
 unfolding stringOf
-returns c = rw (← c .before .before .before .before .before .before .before .before .plain-text .ensures, c .before .before .before .before .before .before .place .given .1) (c .before .before .put-row .ensures)
+returns c =
+    let c2 = c .before .before in
+    let c6 = c2 .before .before .before .before in
+    let c8 = c6 .before .before in
+    rw (← c8 .plain-text .ensures, c6 .place .given .1) (c2 .put-row .ensures)
 
 returns-2 : tie.Need-returns-2
 unfolding stringOf

@@ -7,7 +7,11 @@ use Rattle.rows.proofs.read_symbol.Tie as tie
 
 returns : tie.Need-returns
 unfolding symbolOf
-returns c = rw (← c .before .before .before .before .before .before .before .before .text .ensures, c .before .before .before .before .before .before .place .given .1) (c .before .before .put-row .ensures)
+returns c =
+    let c2 = c .before .before in
+    let c6 = c2 .before .before .before .before in
+    let c8 = c6 .before .before in
+    rw (← c8 .text .ensures, c6 .place .given .1) (c2 .put-row .ensures)
 
 returns-2 : tie.Need-returns-2
 unfolding symbolOf

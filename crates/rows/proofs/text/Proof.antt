@@ -12,15 +12,31 @@ returns c = rw (← c .before .rest .ensures, lt-leb _ _ (c .if1 .taken))
 
 returns-2 : tie.Need-returns-2
 unfolding textOf fmt.text
-returns-2 c = rw (← c .before .before .before .before .rest .ensures, le-leb _ _ (c .before .before .before .if1 .left), ← c .before .before .u16-in .ensures, ← c .before .rest2 .ensures, lt-leb _ _ (c .if2 .taken))
+returns-2 c =
+    let c2 = c .before .before in
+    let c3 = c2 .before in
+    let c4 = c3 .before in
+    rw (← c4 .rest .ensures, le-leb _ _ (c3 .if1 .left), ← c2 .u16-in .ensures, ← c .before .rest2 .ensures, lt-leb _ _ (c .if2 .taken))
 
 returns-3 : tie.Need-returns-3
 unfolding textOf fmt.text
-returns-3 c = rw (← c .before .before .before .before .before .before .rest .ensures, le-leb _ _ (c .before .before .before .before .before .if1 .left), ← c .before .before .before .before .u16-in .ensures, ← c .before .before .before .rest2 .ensures, le-leb _ _ (c .before .before .if2 .left), ← c .before .only-last-zero .ensures, c .if3 .taken)
+returns-3 c =
+    let c2 = c .before .before in
+    let c3 = c2 .before in
+    let c4 = c3 .before in
+    let c5 = c4 .before in
+    let c6 = c5 .before in
+    rw (← c6 .rest .ensures, le-leb _ _ (c5 .if1 .left), ← c4 .u16-in .ensures, ← c3 .rest2 .ensures, le-leb _ _ (c2 .if2 .left), ← c .before .only-last-zero .ensures, c .if3 .taken)
 
 returns-4 : tie.Need-returns-4
 unfolding textOf fmt.text
-returns-4 c = rw (← c .before .before .before .before .before .before .rest .ensures, le-leb _ _ (c .before .before .before .before .before .if1 .left), ← c .before .before .before .before .u16-in .ensures, ← c .before .before .before .rest2 .ensures, le-leb _ _ (c .before .before .if2 .left), ← c .before .only-last-zero .ensures, c .if3 .left)
+returns-4 c =
+    let c2 = c .before .before in
+    let c3 = c2 .before in
+    let c4 = c3 .before in
+    let c5 = c4 .before in
+    let c6 = c5 .before in
+    rw (← c6 .rest .ensures, le-leb _ _ (c5 .if1 .left), ← c4 .u16-in .ensures, ← c3 .rest2 .ensures, le-leb _ _ (c2 .if2 .left), ← c .before .only-last-zero .ensures, c .if3 .left)
 
 pub text-spec : {M : Type 1} → statement M
 text-spec =

@@ -6,7 +6,11 @@ use Rattle.run.proofs.line_of.Statement.{statement}
 use Rattle.run.proofs.line_of.Tie as tie
 
 returns : tie.Need-returns
-returns c = let a = c .before .before .before .before .before .before .args in line-is (a .records .now) (a .lines .now) (a .r) (a .o) (c .before .before .before .before .before .before .pre .1) (c .before .before .before .word .ensures .0) (c .before .before .word2 .ensures .0) (c .line-at .ensures)
+returns c =
+    let c2 = c .before .before in
+    let c3 = c2 .before in
+    let c6 = c3 .before .before .before in
+    let a = c6 .args in line-is (a .records .now) (a .lines .now) (a .r) (a .o) (c6 .pre .1) (c3 .word .ensures .0) (c2 .word2 .ensures .0) (c .line-at .ensures)
 
 pub line-of-spec : {M : Type 1} → statement M
 line-of-spec =

@@ -9,7 +9,9 @@ use Rattle.run.proofs.standing_of.Statement.{statement}
 use Rattle.run.proofs.standing_of.Tie as tie
 
 returns : tie.Need-returns
-returns c = let a = c .before .before .before .before .before .before .args in standing-none (patternAt (a .file .now) (a .records .now) (a .handlers .now) (a .lines .now) (a .n)) (a .frames .now) (a .d) (c .if1 .taken)
+returns c =
+    let c6 = c .before .before .before .before .before .before in
+    let a = c6 .args in standing-none (patternAt (a .file .now) (a .records .now) (a .handlers .now) (a .lines .now) (a .n)) (a .frames .now) (a .d) (c .if1 .taken)
 
 mul-top : tie.Need-mul-top
 mul-top c = omega (arith, sizes (c .before .before .before .before .before .before .pre))
@@ -33,13 +35,19 @@ word-requires : tie.Need-word-requires
 word-requires c κs = omega (arith, sizes (c .before .before .before .before .before .before .before .before .pre))
 
 line-of-requires : tie.Need-line-of-requires
-line-of-requires c κs = let q = row-fits (c .before .before .before .before .before .before .before .before .before .pre) (c .before .before .before .if1 .left) (c .word .ensures .0) refl in (q .inside, q .lined)
+line-of-requires c κs =
+    let c3 = c .before .before .before in
+    let c9 = c3 .before .before .before .before .before .before in
+    let q = row-fits (c9 .pre) (c3 .if1 .left) (c .word .ensures .0) refl in (q .inside, q .lined)
 
 cast-count : tie.Need-cast-count
 cast-count c = omega (arith, sizes (c .before .before .before .before .before .before .before .before .before .before .pre))
 
 returns-2 : tie.Need-returns-2
-returns-2 c = standing-top (c .before .before .before .before .before .before .before .before .before .before .pre) (c .before .before .before .before .if1 .left) (c .before .word .ensures .0) refl (sym (c .before .word .ensures .0)) (c .line-of .ensures)
+returns-2 c =
+    let c4 = c .before .before .before .before in
+    let c10 = c4 .before .before .before .before .before .before in
+    standing-top (c10 .pre) (c4 .if1 .left) (c .before .word .ensures .0) refl (sym (c .before .word .ensures .0)) (c .line-of .ensures)
 
 pub standing-of-spec : {M : Type 1} → statement M
 standing-of-spec =

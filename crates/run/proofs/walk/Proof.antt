@@ -19,19 +19,39 @@ abbrev μ-loop : tie.MeasureT-loop
 μ-loop file records handlers lines n choices frames₀ d₀ i₀ frames d i = length choices - i
 
 loop-holds : tie.Need-loop-holds Inv-loop μ-loop
-loop-holds c = (refl, walking-start (c .before .before .before .before .before .before .args .choices .now) (c .before .before .before .before .before .before .pre .0) (c .before .before .before .before .before .before .pre .1 .0) (c .before .before .before .before .before .before .pre .1 .1))
+loop-holds c =
+    let c6 = c .before .before .before .before .before .before in
+    (refl, walking-start (c6 .args .choices .now) (c6 .pre .0) (c6 .pre .1 .0) (c6 .pre .1 .1))
 
 returns : tie.Need-returns Inv-loop μ-loop
-returns c = walking-bad (c .before .before .before .before .loop .inv .1) (subst (λ (r : Read). ReadAt (c .before .before .before .before .before .before .before .before .before .before .before .args .choices .now) (c .before .before .before .before .loop .i) r) (c .enum-told .given .1) (c .before .before .choice-at .ensures))
+returns c =
+    let c2 = c .before .before in
+    let c4 = c2 .before .before in
+    let c11 = c4 .before .before .before .before .before .before .before in
+    walking-bad (c4 .loop .inv .1) (subst (λ (r : Read). ReadAt (c11 .args .choices .now) (c4 .loop .i) r) (c .enum-told .given .1) (c2 .choice-at .ensures))
 
 one-step-requires : tie.Need-one-step-requires Inv-loop μ-loop
-one-step-requires c κs = (c .before .before .before .before .before .before .before .before .before .before .before .before .before .pre .0, (omega (arith, c .before .before .before .before .before .before .before .before .before .before .before .before .before .pre .1 .0, c .before .before .before .before .before .before .loop .inv .0), c .before .before .before .before .before .before .loop .inv .1 .held))
+one-step-requires c κs =
+    let c6 = c .before .before .before .before .before .before in
+    let c13 = c6 .before .before .before .before .before .before .before in
+    (c13 .pre .0, (omega (arith, c13 .pre .1 .0, c6 .loop .inv .0), c6 .loop .inv .1 .held))
 
 loop-less : tie.Need-loop-less Inv-loop μ-loop
-loop-less c = let q = subst (λ (r : Read). ReadAt (c .before .before .before .before .before .before .before .before .before .before .before .before .before .before .before .before .args .choices .now) (c .before .before .before .before .before .before .before .before .before .loop .i) r) (c .before .before .before .before .before .choice .given .1) (c .before .before .before .before .before .before .before .choice-at .ensures) in omega (arith, q .later, q .inside)
+loop-less c =
+    let c5 = c .before .before .before .before .before in
+    let c7 = c5 .before .before in
+    let c9 = c7 .before .before in
+    let c16 = c9 .before .before .before .before .before .before .before in
+    let q = subst (λ (r : Read). ReadAt (c16 .args .choices .now) (c9 .loop .i) r) (c5 .choice .given .1) (c7 .choice-at .ensures) in omega (arith, q .later, q .inside)
 
 loop-again : tie.Need-loop-again Inv-loop μ-loop
-loop-again c = (search needs, walking-step (c .before .before .before .before .before .before .before .before .before .loop .inv .1) (subst (λ (r : Read). ReadAt (c .before .before .before .before .before .before .before .before .before .before .before .before .before .before .before .before .args .choices .now) (c .before .before .before .before .before .before .before .before .before .loop .i) r) (c .before .before .before .before .before .choice .given .1) (c .before .before .before .before .before .before .before .choice-at .ensures)) (c .before .before .one-step .ensures))
+loop-again c =
+    let c2 = c .before .before in
+    let c5 = c2 .before .before .before in
+    let c7 = c5 .before .before in
+    let c9 = c7 .before .before in
+    let c16 = c9 .before .before .before .before .before .before .before in
+    (search needs, walking-step (c9 .loop .inv .1) (subst (λ (r : Read). ReadAt (c16 .args .choices .now) (c9 .loop .i) r) (c5 .choice .given .1) (c7 .choice-at .ensures)) (c2 .one-step .ensures))
 
 returns-2 : tie.Need-returns-2 Inv-loop μ-loop
 returns-2 c = walking-end (c .before .loop .inv .1) (c .loop-test .left)

@@ -20,12 +20,6 @@ loop-holds c = cleared-start
 slice-write-flags : tie.Need-slice-write-flags Inv-loop μ-loop
 slice-write-flags c = omega (arith, c .before .loop .inv .long)
 
-add-i : tie.Need-add-i Inv-loop μ-loop
-add-i c = search needs
-
-loop-less : tie.Need-loop-less Inv-loop μ-loop
-loop-less c = search needs
-
 loop-again : tie.Need-loop-again Inv-loop μ-loop
 loop-again c = cleared-turn (omega arith) (c .before .loop .inv)
 
@@ -43,8 +37,8 @@ clear-spec =
     μ-loop
     loop-holds
     slice-write-flags
-    add-i
-    loop-less
+    (λ c. search needs)
+    (λ c. search needs)
     loop-again
     same-length
     returns)

@@ -16,19 +16,13 @@ abbrev μ-loop : tie.MeasureT-loop
 μ-loop code flags₀ limits i₀ flags i = length code - i
 
 returns : tie.Need-returns Inv-loop μ-loop
-returns c = marks-empty (c .before .before .before .before .args .limits .now) (c .before .before .before .before .args .code .now) (c .before .before .before .before .args .flags .now) (c .if1 .taken)
-
-clear-requires : tie.Need-clear-requires Inv-loop μ-loop
-clear-requires c κs = search needs
+returns c =
+    let c4 = c .before .before .before .before in
+    let a = c4 .args in
+    marks-empty (a .limits .now) (a .code .now) (a .flags .now) (c .if1 .taken)
 
 loop-holds : tie.Need-loop-holds Inv-loop μ-loop
 loop-holds c = (refl, marking-start (c .before .before .before .before .if1 .left) (c .before .before .before .before .before .before .before .before .pre .0) (c .before .before .clear .ensures))
-
-shared-slice-read-digits : tie.Need-shared-slice-read-digits Inv-loop μ-loop
-shared-slice-read-digits c = search needs
-
-digits-requires : tie.Need-digits-requires Inv-loop μ-loop
-digits-requires c κs = search needs
 
 same-length : tie.Need-same-length Inv-loop μ-loop
 same-length c = omega (arith, c .before .before .before .before .loop .inv .0, c .before .before .before .before .before .before .before .clear .ensures .long)
@@ -36,29 +30,34 @@ same-length c = omega (arith, c .before .before .before .before .loop .inv .0, c
 returns-2 : tie.Need-returns-2 Inv-loop μ-loop
 returns-2 c = marks-unknown (c .before .before .before .loop-test .taken) (c .before .before .before .before .loop .inv .1) _ (c .before .digits .ensures) (c .if2 .taken)
 
-sub-if3 : tie.Need-sub-if3 Inv-loop μ-loop
-sub-if3 c = search needs
-
 same-length-2 : tie.Need-same-length-2 Inv-loop μ-loop
 same-length-2 c = omega (arith, c .before .before .before .before .before .loop .inv .0, c .before .before .before .before .before .before .before .before .clear .ensures .long)
 
 returns-3 : tie.Need-returns-3 Inv-loop μ-loop
-returns-3 c = marks-cut (c .before .before .before .before .loop-test .taken) (c .before .before .before .before .before .loop .inv .1) _ (c .before .before .digits .ensures) (c .before .if2 .left) (c .if3 .taken)
+returns-3 c =
+    let c2 = c .before .before in
+    let c4 = c2 .before .before in
+    let c5 = c4 .before in
+    marks-cut (c4 .loop-test .taken) (c5 .loop .inv .1) _ (c2 .digits .ensures) (c .before .if2 .left) (c .if3 .taken)
 
 flag-at-requires : tie.Need-flag-at-requires Inv-loop μ-loop
-flag-at-requires c κs = (c .before .before .before .before .before .before .before .before .before .before .before .before .before .before .pre .1, marking-looked (c .before .before .before .before .loop-test .taken) (c .before .before .before .before .before .loop .inv .1) _ (c .before .before .digits .ensures) (c .before .if2 .left) (c .if3 .left))
+flag-at-requires c κs =
+    let c2 = c .before .before in
+    let c4 = c2 .before .before in
+    let c5 = c4 .before in
+    let c14 = c5 .before .before .before .before .before .before .before .before .before in
+    (c14 .pre .1, marking-looked (c4 .loop-test .taken) (c5 .loop .inv .1) _ (c2 .digits .ensures) (c .before .if2 .left) (c .if3 .left))
 
 slice-write-flags : tie.Need-slice-write-flags Inv-loop μ-loop
 slice-write-flags c = omega (arith, c .before .before .before .before .before .before .loop .inv .1 .room)
 
-add-i : tie.Need-add-i Inv-loop μ-loop
-add-i c = search needs
-
-loop-less : tie.Need-loop-less Inv-loop μ-loop
-loop-less c = search needs
-
 loop-again : tie.Need-loop-again Inv-loop μ-loop
-loop-again c = (simp length-set (c .before .before .before .before .before .before .loop .inv .0), marking-turn (c .before .before .before .before .before .loop-test .taken) (c .before .before .before .before .before .before .loop .inv .1) _ (c .before .before .before .digits .ensures) (c .before .before .if2 .left) (c .before .if3 .left) _ (c .flag-at .ensures))
+loop-again c =
+    let c2 = c .before .before in
+    let c3 = c2 .before in
+    let c5 = c3 .before .before in
+    let c6 = c5 .before in
+    (simp length-set (c6 .loop .inv .0), marking-turn (c5 .loop-test .taken) (c6 .loop .inv .1) _ (c3 .digits .ensures) (c2 .if2 .left) (c .before .if3 .left) _ (c .flag-at .ensures))
 
 same-length-3 : tie.Need-same-length-3 Inv-loop μ-loop
 same-length-3 c = omega (arith, c .before .loop .inv .0, c .before .before .before .before .clear .ensures .long)
@@ -73,19 +72,19 @@ exam-16-spec =
     Inv-loop
     μ-loop
     returns
-    clear-requires
+    (λ c κs. search needs)
     loop-holds
-    shared-slice-read-digits
-    digits-requires
+    (λ c. search needs)
+    (λ c κs. search needs)
     same-length
     returns-2
-    sub-if3
+    (λ c. search needs)
     same-length-2
     returns-3
     flag-at-requires
     slice-write-flags
-    add-i
-    loop-less
+    (λ c. search needs)
+    (λ c. search needs)
     loop-again
     same-length-3
     returns-4)

@@ -18,12 +18,6 @@ Inv-loop code flags limits a i₀ i = Going (bare limits code) i
 abbrev μ-loop : tie.MeasureT-loop
 μ-loop code flags limits a i₀ i = length code - i
 
-exam-16-requires : tie.Need-exam-16-requires Inv-loop μ-loop
-exam-16-requires c κs = search needs
-
-same-length : tie.Need-same-length Inv-loop μ-loop
-same-length c = search needs
-
 returns : tie.Need-returns Inv-loop μ-loop
 returns c = coded-16 (c .before .before .before .exam-16 .ensures) (c .if1 .taken)
 
@@ -33,56 +27,103 @@ loop-holds c = going-start
 slice-read-v : tie.Need-slice-read-v Inv-loop μ-loop
 slice-read-v c = omega (arith, (c .before .before .before .before .before .before .exam-16 .ensures .flagged (c .before .before .before .if1 .left)) .room)
 
-add-i : tie.Need-add-i Inv-loop μ-loop
-add-i c = search needs
-
-loop-less : tie.Need-loop-less Inv-loop μ-loop
-loop-less c = search needs
-
 loop-again : tie.Need-loop-again Inv-loop μ-loop
-loop-again c = going-skip (c .before .before .before .before .before .before .before .exam-16 .ensures .flagged (c .before .before .before .before .if1 .left)) (c .before .before .loop-test .taken) (c .before .before .before .loop .inv) (c .if2 .taken)
-
-same-length-2 : tie.Need-same-length-2 Inv-loop μ-loop
-same-length-2 c = search needs
+loop-again c =
+    let c2 = c .before .before in
+    let c3 = c2 .before in
+    let c4 = c3 .before in
+    let c7 = c4 .before .before .before in
+    going-skip (c7 .exam-16 .ensures .flagged (c4 .if1 .left)) (c2 .loop-test .taken) (c3 .loop .inv) (c .if2 .taken)
 
 returns-2 : tie.Need-returns-2 Inv-loop μ-loop
-returns-2 c = coded-stop (c .before .before .before .before .before .before .before .before .exam-16 .ensures) (c .before .before .before .before .before .if1 .left) (going-17 (c .before .before .before .before .before .before .before .before .exam-16 .ensures .flagged (c .before .before .before .before .before .if1 .left)) (c .before .before .before .loop-test .taken) (c .before .before .before .before .loop .inv) (c .if3 .taken))
-
-same-length-3 : tie.Need-same-length-3 Inv-loop μ-loop
-same-length-3 c = search needs
+returns-2 c =
+    let c3 = c .before .before .before in
+    let c4 = c3 .before in
+    let c5 = c4 .before in
+    let c8 = c5 .before .before .before in
+    coded-stop (c8 .exam-16 .ensures) (c5 .if1 .left) (going-17 (c8 .exam-16 .ensures .flagged (c5 .if1 .left)) (c3 .loop-test .taken) (c4 .loop .inv) (c .if3 .taken))
 
 returns-3 : tie.Need-returns-3 Inv-loop μ-loop
-returns-3 c = coded-stop (c .before .before .before .before .before .before .before .before .before .exam-16 .ensures) (c .before .before .before .before .before .before .if1 .left) (going-18 (c .before .before .before .before .before .before .before .before .before .exam-16 .ensures .flagged (c .before .before .before .before .before .before .if1 .left)) (c .before .before .before .before .loop-test .taken) (c .before .before .before .before .before .loop .inv) (c .if4 .taken))
-
-shared-slice-read-digits : tie.Need-shared-slice-read-digits Inv-loop μ-loop
-shared-slice-read-digits c = search needs
-
-digits-requires : tie.Need-digits-requires Inv-loop μ-loop
-digits-requires c κs = search needs
+returns-3 c =
+    let c4 = c .before .before .before .before in
+    let c5 = c4 .before in
+    let c6 = c5 .before in
+    let c9 = c6 .before .before .before in
+    coded-stop (c9 .exam-16 .ensures) (c6 .if1 .left) (going-18 (c9 .exam-16 .ensures .flagged (c6 .if1 .left)) (c4 .loop-test .taken) (c5 .loop .inv) (c .if4 .taken))
 
 add-lands-at : tie.Need-add-lands-at Inv-loop μ-loop
-add-lands-at c = omega (arith, jump-next (c .before .before .before .before .before .before .before .before .before .before .before .before .exam-16 .ensures .flagged (c .before .before .before .before .before .before .before .before .before .if1 .left)) (c .before .before .before .before .before .before .before .loop-test .taken) (passes (c .before .before .before .before .before .before .before .before .before .before .before .before .exam-16 .ensures) (c .before .before .before .before .before .before .before .before .before .if1 .left)) (omega (arith, c .before .before .before .before .before .if2 .left)) (c .digits .ensures), jump-inside (c .before .before .before .before .before .before .before .before .before .before .before .before .exam-16 .ensures .flagged (c .before .before .before .before .before .before .before .before .before .if1 .left)) (c .before .before .before .before .before .before .before .loop-test .taken) (passes (c .before .before .before .before .before .before .before .before .before .before .before .before .exam-16 .ensures) (c .before .before .before .before .before .before .before .before .before .if1 .left)) (omega (arith, c .before .before .before .before .before .if2 .left)))
+add-lands-at c =
+    let c5 = c .before .before .before .before .before in
+    let c7 = c5 .before .before in
+    let c9 = c7 .before .before in
+    let c12 = c9 .before .before .before in
+    omega (
+      arith,
+      jump-next (c12 .exam-16 .ensures .flagged (c9 .if1 .left)) (c7 .loop-test .taken) (passes (c12 .exam-16 .ensures) (c9 .if1 .left))
+          (omega (arith, c5 .if2 .left)) (c .digits .ensures),
+      jump-inside (c12 .exam-16 .ensures .flagged (c9 .if1 .left)) (c7 .loop-test .taken)
+          (passes (c12 .exam-16 .ensures) (c9 .if1 .left)) (omega (arith, c5 .if2 .left)),
+    )
 
 lands-at-requires : tie.Need-lands-at-requires Inv-loop μ-loop
-lands-at-requires c κs = (flags-mark (c .before .before .before .before .before .before .before .before .before .before .before .before .exam-16 .ensures .flagged (c .before .before .before .before .before .before .before .before .before .if1 .left)), (omega (arith, jump-next (c .before .before .before .before .before .before .before .before .before .before .before .before .exam-16 .ensures .flagged (c .before .before .before .before .before .before .before .before .before .if1 .left)) (c .before .before .before .before .before .before .before .loop-test .taken) (passes (c .before .before .before .before .before .before .before .before .before .before .before .before .exam-16 .ensures) (c .before .before .before .before .before .before .before .before .before .if1 .left)) (omega (arith, c .before .before .before .before .before .if2 .left)) (c .digits .ensures), jump-behind (c .before .before .before .before .before .before .before .before .before .before .before .before .exam-16 .ensures .flagged (c .before .before .before .before .before .before .before .before .before .if1 .left)) (c .before .before .before .before .before .before .before .loop-test .taken) (passes (c .before .before .before .before .before .before .before .before .before .before .before .before .exam-16 .ensures) (c .before .before .before .before .before .before .before .before .before .if1 .left)) (omega (arith, c .before .before .before .before .before .if2 .left)) (omega (arith, c .before .before .before .before .before .if2 .left, c .before .before .before .before .if3 .left, c .before .before .before .if4 .left))), omega (arith, jump-next (c .before .before .before .before .before .before .before .before .before .before .before .before .exam-16 .ensures .flagged (c .before .before .before .before .before .before .before .before .before .if1 .left)) (c .before .before .before .before .before .before .before .loop-test .taken) (passes (c .before .before .before .before .before .before .before .before .before .before .before .before .exam-16 .ensures) (c .before .before .before .before .before .before .before .before .before .if1 .left)) (omega (arith, c .before .before .before .before .before .if2 .left)) (c .digits .ensures), jump-inside (c .before .before .before .before .before .before .before .before .before .before .before .before .exam-16 .ensures .flagged (c .before .before .before .before .before .before .before .before .before .if1 .left)) (c .before .before .before .before .before .before .before .loop-test .taken) (passes (c .before .before .before .before .before .before .before .before .before .before .before .before .exam-16 .ensures) (c .before .before .before .before .before .before .before .before .before .if1 .left)) (omega (arith, c .before .before .before .before .before .if2 .left)))))
-
-same-length-4 : tie.Need-same-length-4 Inv-loop μ-loop
-same-length-4 c = search needs
+lands-at-requires c κs =
+    let c3 = c .before .before .before in
+    let c4 = c3 .before in
+    let c5 = c4 .before in
+    let c7 = c5 .before .before in
+    let c9 = c7 .before .before in
+    let c12 = c9 .before .before .before in (
+      flags-mark (c12 .exam-16 .ensures .flagged (c9 .if1 .left)),
+      (
+        omega (
+          arith,
+          jump-next (c12 .exam-16 .ensures .flagged (c9 .if1 .left)) (c7 .loop-test .taken) (passes (c12 .exam-16 .ensures) (c9 .if1 .left))
+              (omega (arith, c5 .if2 .left)) (c .digits .ensures),
+          jump-behind (c12 .exam-16 .ensures .flagged (c9 .if1 .left)) (c7 .loop-test .taken)
+              (passes (c12 .exam-16 .ensures) (c9 .if1 .left)) (omega (arith, c5 .if2 .left)) (omega (arith, c5 .if2 .left, c4 .if3 .left, c3 .if4 .left)),
+        ),
+        omega (
+          arith,
+          jump-next (c12 .exam-16 .ensures .flagged (c9 .if1 .left)) (c7 .loop-test .taken) (passes (c12 .exam-16 .ensures) (c9 .if1 .left))
+              (omega (arith, c5 .if2 .left)) (c .digits .ensures),
+          jump-inside (c12 .exam-16 .ensures .flagged (c9 .if1 .left)) (c7 .loop-test .taken)
+              (passes (c12 .exam-16 .ensures) (c9 .if1 .left)) (omega (arith, c5 .if2 .left)),
+        ),
+      ),
+    )
 
 returns-4 : tie.Need-returns-4 Inv-loop μ-loop
-returns-4 c = coded-stop (c .before .before .before .before .before .before .before .before .before .before .before .before .before .before .exam-16 .ensures) (c .before .before .before .before .before .before .before .before .before .before .before .if1 .left) (going-off (c .before .before .before .before .before .before .before .before .before .before .before .before .before .before .exam-16 .ensures .flagged (c .before .before .before .before .before .before .before .before .before .before .before .if1 .left)) (c .before .before .before .before .before .before .before .before .before .loop-test .taken) (c .before .before .before .before .before .before .before .before .before .before .loop .inv) (omega (arith, c .before .before .before .before .before .before .before .if2 .left, c .before .before .before .before .before .before .if3 .left, c .before .before .before .before .before .if4 .left)) (c .before .lands-at .ensures ∙ ap (landsFrom (c .before .before .before .before .before .before .before .before .before .before .before .before .before .before .before .before .before .before .before .args .code .now)) (jump-next (c .before .before .before .before .before .before .before .before .before .before .before .before .before .before .exam-16 .ensures .flagged (c .before .before .before .before .before .before .before .before .before .before .before .if1 .left)) (c .before .before .before .before .before .before .before .before .before .loop-test .taken) (passes (c .before .before .before .before .before .before .before .before .before .before .before .before .before .before .exam-16 .ensures) (c .before .before .before .before .before .before .before .before .before .before .before .if1 .left)) (omega (arith, c .before .before .before .before .before .before .before .if2 .left)) (c .before .before .digits .ensures))) (not-true _ (c .if5 .taken)))
-
-add-i-2 : tie.Need-add-i-2 Inv-loop μ-loop
-add-i-2 c = search needs
-
-loop-less-2 : tie.Need-loop-less-2 Inv-loop μ-loop
-loop-less-2 c = search needs
+returns-4 c =
+    let c2 = c .before .before in
+    let c5 = c2 .before .before .before in
+    let c6 = c5 .before in
+    let c7 = c6 .before in
+    let c9 = c7 .before .before in
+    let c10 = c9 .before in
+    let c11 = c10 .before in
+    let c14 = c11 .before .before .before in
+    let c19 = c14 .before .before .before .before .before in
+    coded-stop (c14 .exam-16 .ensures) (c11 .if1 .left)
+    (going-off (c14 .exam-16 .ensures .flagged (c11 .if1 .left)) (c9 .loop-test .taken) (c10 .loop .inv) (omega (arith, c7 .if2 .left, c6 .if3 .left, c5 .if4 .left))
+    (c .before .lands-at .ensures ∙ ap (landsFrom (c19 .args .code .now))
+    (jump-next (c14 .exam-16 .ensures .flagged (c11 .if1 .left)) (c9 .loop-test .taken) (passes (c14 .exam-16 .ensures) (c11 .if1 .left)) (omega (arith, c7 .if2 .left))
+    (c2 .digits .ensures))) (not-true _ (c .if5 .taken)))
 
 loop-again-2 : tie.Need-loop-again-2 Inv-loop μ-loop
-loop-again-2 c = going-land (c .before .before .before .before .before .before .before .before .before .before .before .before .before .before .exam-16 .ensures .flagged (c .before .before .before .before .before .before .before .before .before .before .before .if1 .left)) (c .before .before .before .before .before .before .before .before .before .loop-test .taken) (c .before .before .before .before .before .before .before .before .before .before .loop .inv) (omega (arith, c .before .before .before .before .before .before .before .if2 .left, c .before .before .before .before .before .before .if3 .left, c .before .before .before .before .before .if4 .left)) (c .before .lands-at .ensures ∙ ap (landsFrom (c .before .before .before .before .before .before .before .before .before .before .before .before .before .before .before .before .before .before .before .args .code .now)) (jump-next (c .before .before .before .before .before .before .before .before .before .before .before .before .before .before .exam-16 .ensures .flagged (c .before .before .before .before .before .before .before .before .before .before .before .if1 .left)) (c .before .before .before .before .before .before .before .before .before .loop-test .taken) (passes (c .before .before .before .before .before .before .before .before .before .before .before .before .before .before .exam-16 .ensures) (c .before .before .before .before .before .before .before .before .before .before .before .if1 .left)) (omega (arith, c .before .before .before .before .before .before .before .if2 .left)) (c .before .before .digits .ensures))) (not-false _ (c .if5 .left))
-
-same-length-5 : tie.Need-same-length-5 Inv-loop μ-loop
-same-length-5 c = search needs
+loop-again-2 c =
+    let c2 = c .before .before in
+    let c5 = c2 .before .before .before in
+    let c6 = c5 .before in
+    let c7 = c6 .before in
+    let c9 = c7 .before .before in
+    let c10 = c9 .before in
+    let c11 = c10 .before in
+    let c14 = c11 .before .before .before in
+    let c19 = c14 .before .before .before .before .before in
+    going-land (c14 .exam-16 .ensures .flagged (c11 .if1 .left)) (c9 .loop-test .taken) (c10 .loop .inv) (omega (arith, c7 .if2 .left, c6 .if3 .left, c5 .if4 .left))
+    (c .before .lands-at .ensures ∙ ap (landsFrom (c19 .args .code .now))
+    (jump-next (c14 .exam-16 .ensures .flagged (c11 .if1 .left)) (c9 .loop-test .taken) (passes (c14 .exam-16 .ensures) (c11 .if1 .left)) (omega (arith, c7 .if2 .left))
+    (c2 .digits .ensures))) (not-false _ (c .if5 .left))
 
 returns-5 : tie.Need-returns-5 Inv-loop μ-loop
 returns-5 c = coded-end (c .before .before .before .before .before .exam-16 .ensures) (c .before .before .if1 .left) (going-end (c .loop-test .left) (c .before .loop .inv))
@@ -93,26 +134,26 @@ exam-code-spec =
     (tie.spec
     Inv-loop
     μ-loop
-    exam-16-requires
-    same-length
+    (λ c κs. search needs)
+    (λ c. search needs)
     returns
     loop-holds
     slice-read-v
-    add-i
-    loop-less
+    (λ c. search needs)
+    (λ c. search needs)
     loop-again
-    same-length-2
+    (λ c. search needs)
     returns-2
-    same-length-3
+    (λ c. search needs)
     returns-3
-    shared-slice-read-digits
-    digits-requires
+    (λ c. search needs)
+    (λ c κs. search needs)
     add-lands-at
     lands-at-requires
-    same-length-4
+    (λ c. search needs)
     returns-4
-    add-i-2
-    loop-less-2
+    (λ c. search needs)
+    (λ c. search needs)
     loop-again-2
-    same-length-5
+    (λ c. search needs)
     returns-5)

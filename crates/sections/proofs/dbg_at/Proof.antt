@@ -19,15 +19,51 @@ returns-2 c = rw (not-false (c .before .before .before .before .before .before .
 
 returns-3 : tie.Need-returns-3
 unfolding dbgOutOf
-returns-3 c = rw (not-false (c .before .before .before .before .before .before .before .before .before .before .before .args .p .irep) (c .before .before .before .before .if1 .left), c .before .before .before .if2 .left, ← c .before .row-count .ensures, lt-ltb _ _ (c .if3 .taken))
+returns-3 c =
+    let c3 = c .before .before .before in
+    let c4 = c3 .before in
+    let c11 = c4 .before .before .before .before .before .before .before in
+    rw (not-false (c11 .args .p .irep) (c4 .if1 .left), c3 .if2 .left, ← c .before .row-count .ensures, lt-ltb _ _ (c .if3 .taken))
 
 returns-4 : tie.Need-returns-4
 unfolding dbgOutOf
-returns-4 c = rw (c .with-dbg .ensures, not-false (c .before .before .before .before .before .before .before .before .before .before .before .before .before .before .before .before .before .before .before .before .before .before .before .before .before .before .before .before .before .args .p .irep) (c .before .before .before .before .before .before .before .before .before .before .before .before .before .before .before .before .before .before .before .before .before .before .if1 .left), c .before .before .before .before .before .before .before .before .before .before .before .before .before .before .before .before .before .before .before .before .before .if2 .left, ← c .before .before .before .before .before .before .before .before .before .before .before .before .before .before .before .before .before .before .before .row-count .ensures, le-ltb _ _ (c .before .before .before .before .before .before .before .before .before .before .before .before .before .before .before .before .before .before .if3 .left), ← (rw part-is at (c .before .before .before .before .before .before .before .before .before .before .before .before .parse-debug-section .ensures)), c .before .before .size .given .1)
+returns-4 c =
+    let c2 = c .before .before in
+    let c12 = c2 .before .before .before .before .before .before .before .before .before .before in
+    let c18 = c12 .before .before .before .before .before .before in
+    let c19 = c18 .before in
+    let c21 = c19 .before .before in
+    let c22 = c21 .before in
+    let c29 = c22 .before .before .before .before .before .before .before in
+    rw (
+      c .with-dbg .ensures,
+      not-false (c29 .args .p .irep) (c22 .if1 .left),
+      c21 .if2 .left,
+      ← c19 .row-count .ensures,
+      le-ltb _ _ (c18 .if3 .left),
+      ←
+          (rw part-is at (c12 .parse-debug-section .ensures)),
+      c2 .size .given .1,
+    )
 
 returns-5 : tie.Need-returns-5
 unfolding dbgOutOf
-returns-5 c = rw (not-false (c .before .before .before .before .before .before .before .before .before .before .before .before .before .before .before .before .before .before .before .before .before .before .before .before .before .before .before .before .args .p .irep) (c .before .before .before .before .before .before .before .before .before .before .before .before .before .before .before .before .before .before .before .before .before .if1 .left), c .before .before .before .before .before .before .before .before .before .before .before .before .before .before .before .before .before .before .before .before .if2 .left, ← c .before .before .before .before .before .before .before .before .before .before .before .before .before .before .before .before .before .before .row-count .ensures, le-ltb _ _ (c .before .before .before .before .before .before .before .before .before .before .before .before .before .before .before .before .before .if3 .left), ← (rw part-is at (c .before .before .before .before .before .before .before .before .before .before .before .parse-debug-section .ensures)), c .before .e .given .1)
+returns-5 c =
+    let c11 = c .before .before .before .before .before .before .before .before .before .before .before in
+    let c17 = c11 .before .before .before .before .before .before in
+    let c18 = c17 .before in
+    let c20 = c18 .before .before in
+    let c21 = c20 .before in
+    let c28 = c21 .before .before .before .before .before .before .before in
+    rw (
+      not-false (c28 .args .p .irep) (c21 .if1 .left),
+      c20 .if2 .left,
+      ← c18 .row-count .ensures,
+      le-ltb _ _ (c17 .if3 .left),
+      ←
+          (rw part-is at (c11 .parse-debug-section .ensures)),
+      c .before .e .given .1,
+    )
 
 pub dbg-at-spec : {M : Type 1} → statement M
 dbg-at-spec =

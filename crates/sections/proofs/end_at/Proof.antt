@@ -13,12 +13,18 @@ use Rattle.sections.proofs.end_at.Tie as tie
 
 returns : tie.Need-returns
 unfolding endOutOf
-returns c = let e : ok (c .before .size .given .0 .0) ≡ endSection (drop (c .before .before .before .before .before .before .args .at) (c .before .before .before .before .before .before .args .f .now)) = ap sizeOf (sym (c .before .size .given .1)) ∙ rw part-is at (c .before .before .before .section-end .ensures) in
+returns c =
+    let c3 = c .before .before .before in
+    let c6 = c3 .before .before .before in
+    let e : ok (c .before .size .given .0 .0) ≡ endSection (drop (c6 .args .at) (c6 .args .f .now)) = ap sizeOf (sym (c .before .size .given .1)) ∙ rw part-is at (c3 .section-end .ensures) in
     rw (← e)
 
 returns-2 : tie.Need-returns-2
 unfolding endOutOf
-returns-2 c = let e : refused (c .before .e .given .0 .0) ≡ endSection (drop (c .before .before .before .before .before .before .args .at) (c .before .before .before .before .before .before .args .f .now)) = ap sizeOf (sym (c .before .e .given .1)) ∙ rw part-is at (c .before .before .before .section-end .ensures) in
+returns-2 c =
+    let c3 = c .before .before .before in
+    let c6 = c3 .before .before .before in
+    let e : refused (c .before .e .given .0 .0) ≡ endSection (drop (c6 .args .at) (c6 .args .f .now)) = ap sizeOf (sym (c .before .e .given .1)) ∙ rw part-is at (c3 .section-end .ensures) in
     rw (← e)
 
 pub end-at-spec : {M : Type 1} → statement M

@@ -12,11 +12,18 @@ returns c = rw (c .if1 .taken)
 
 returns-2 : tie.Need-returns-2
 unfolding irepOutOf
-returns-2 c = rw (c .before .before .before .before .before .before .before .before .before .before .before .before .before .before .before .before .before .before .if1 .left, ← (rw part-is at (c .before .before .before .before .before .before .before .before .before .before .before .before .section-irep-1 .ensures)), c .before .before .size .given .1, c .with-irep .ensures)
+returns-2 c =
+    let c2 = c .before .before in
+    let c12 = c2 .before .before .before .before .before .before .before .before .before .before in
+    let c18 = c12 .before .before .before .before .before .before in
+    rw (c18 .if1 .left, ← (rw part-is at (c12 .section-irep-1 .ensures)), c2 .size .given .1, c .with-irep .ensures)
 
 returns-3 : tie.Need-returns-3
 unfolding irepOutOf
-returns-3 c = rw (c .before .before .before .before .before .before .before .before .before .before .before .before .before .before .before .before .before .if1 .left, ← (rw part-is at (c .before .before .before .before .before .before .before .before .before .before .before .section-irep-1 .ensures)), c .before .e .given .1)
+returns-3 c =
+    let c11 = c .before .before .before .before .before .before .before .before .before .before .before in
+    let c17 = c11 .before .before .before .before .before .before in
+    rw (c17 .if1 .left, ← (rw part-is at (c11 .section-irep-1 .ensures)), c .before .e .given .1)
 
 pub irep-at-spec : {M : Type 1} → statement M
 irep-at-spec =

@@ -5,9 +5,6 @@ use borrow.Author.Needs.{needs}
 use Rattle.stored.proofs.ahead.Statement.{statement}
 use Rattle.stored.proofs.ahead.Tie as tie
 
-add-result : tie.Need-add-result
-add-result c = search needs
-
 returns : tie.Need-returns
 returns c = rw (lt-ltb _ _ (c .before .if1 .taken), lt-ltb _ _ (c .if2 .taken))
 
@@ -18,4 +15,4 @@ returns-3 : tie.Need-returns-3
 returns-3 c = rw (le-ltb _ _ (c .if1 .left))
 
 pub ahead-spec : {M : Type 1} → statement M
-ahead-spec = tie.close (tie.spec add-result returns returns-2 returns-3)
+ahead-spec = tie.close (tie.spec (λ c. search needs) returns returns-2 returns-3)

@@ -8,11 +8,8 @@ use Rattle.stored.proofs.counted.Tie as tie
 returns : tie.Need-returns
 returns c = rw (c .if1 .taken)
 
-one-more-requires : tie.Need-one-more-requires
-one-more-requires c κs = search needs
-
 returns-2 : tie.Need-returns-2
 returns-2 c = rw (c .before .if1 .left) (c .one-more .ensures)
 
 pub counted-spec : {M : Type 1} → statement M
-counted-spec = tie.close (tie.spec returns one-more-requires returns-2)
+counted-spec = tie.close (tie.spec returns (λ c κs. search needs) returns-2)

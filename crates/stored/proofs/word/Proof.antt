@@ -7,15 +7,6 @@ use borrow.Author.Needs.{needs}
 use Rattle.stored.proofs.word.Statement.{statement}
 use Rattle.stored.proofs.word.Tie as tie
 
-u32-at-requires : tie.Need-u32-at-requires
-u32-at-requires c κs = search needs
-
-enum-known-v : tie.Need-enum-known-v
-enum-known-v c = search needs
-
-enum-known-n : tie.Need-enum-known-n
-enum-known-n c = search needs
-
 returns : tie.Need-returns
 returns c = ap (λ a. onAnswer a (λ n. n) (λ e. 0)) (ap field32Of (sym (c .before .v .given .1)) ∙ c .before .before .before .u32-at .ensures)
 
@@ -23,4 +14,4 @@ returns-2 : tie.Need-returns-2
 returns-2 c = ap (λ a. onAnswer a (λ n. n) (λ e. 0)) (ap field32Of (sym (c .before .n .given .1)) ∙ c .before .before .before .u32-at .ensures)
 
 pub word-spec : {M : Type 1} → statement M
-word-spec = tie.close (tie.spec u32-at-requires enum-known-v enum-known-n returns returns-2)
+word-spec = tie.close (tie.spec (λ c κs. search needs) (λ c. search needs) (λ c. search needs) returns returns-2)

@@ -5,7 +5,18 @@ use Rattle.tables.proofs.clear_all.Statement.{statement}
 use Rattle.tables.proofs.clear_all.Tie as tie
 
 returns : tie.Need-returns
-returns c = record { records = search needs; handlers = search needs; pool = search needs; symbols = search needs; strings = search needs; names = search needs; fileNames = search needs; files = search needs; lines = search needs }
+returns c =
+    record {
+      records = search needs;
+      handlers = search needs;
+      pool = search needs;
+      symbols = search needs;
+      strings = search needs;
+      names = search needs;
+      fileNames = search needs;
+      files = search needs;
+      lines = search needs;
+    }
 
 pub clear-all-spec : {M : Type 1} → statement M
 clear-all-spec =

@@ -14,7 +14,7 @@ use Rattle.format.specs.Line.{halve, lineAt, rowsFrom, lineRowAt, mapOf}
 use Rattle.format.specs.Lookup as format
 use Rattle.format.proofs.RowsFrom.{rowsFrom-length, rowsFrom-at, map-length, map-entry}
 use Rattle.ranges.specs.Leaves.{range}
-use Rattle.entries.specs.Lines.{lineIn}
+use Rattle.entries_debug.specs.Lines.{lineIn}
 
 -- a part of the line table is the rows that it holds
 module _ (l : List ℕ) (first number : ℕ) (inside : first + number ≤ length l / 2) where
