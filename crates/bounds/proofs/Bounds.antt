@@ -4,17 +4,18 @@ use Prim.Native.Nat.{ℕ, zero, suc, _+_, _≤_, _<_}
 use native.Mathlib.Omega.{arith}
 use mathlib.Core.List.{List}
 use mathlib.Core.Option.{Option, none, some}
-use lib.Dec.{ltb}
+use lib.Dec.{eqb}
 use lib.ListN.{length, getD, drop, length-drop}
 use lib.Seq.{getD-drop}
-use borrow.Author.Tests.{ltb-false}
+use borrow.Author.Tests.{eqb-true}
 use Rattle.format.specs.Bytes.{refused, has}
 use Rattle.format.specs.Headers.{irep, lvar, dbg, end}
 use Rattle.format.specs.Reading.{Part, part}
 use Rattle.format.specs.Irep.{Rec, irepSection}
-use Rattle.format.specs.File.{Content, isMark, once, afterIrep, sectionAt, sections, nothing, majorIs04, fileReading}
+use Rattle.format.specs.File.{Content, isMark, once, afterIrep, sectionAt, sections, nothing, fileRefusal, fileReading}
 use Rattle.format.specs.Load.{joined, recordsOf, stringsOf, namesOf, fileNamesOf, filesOf, Tables, tablesOf}
 use Rattle.format.proofs.Answers.{either, anything, answered}
+use Rattle.format.proofs.File.{accepted}
 use Rattle.format.proofs.Places.{fileRows-length}
 use Rattle.bounds.proofs.Sections.{filesAndLines, lvarSection-rows, debugSection-rows}
 use Rattle.bounds.proofs.Sums.{Sums, no-sums, irepSection-sums}
@@ -107,17 +108,13 @@ module _ (f : List ℕ) (bytes : (i : ℕ) → getD f i 0 < 256) (n : ℕ) (shor
       answered _ _ (Keeps n) (s .end) _ _ (anything (s .end)) (λ size _. sections-counts left (s .it) (at + size) y) (λ _ _. y))
       (λ _. x)
 
--- of a longer file nothing is read
+-- of a file that its tests refuse nothing is read
 pub fileReading-counts : (f : List ℕ) → ((i : ℕ) → getD f i 0 < 256) → Keeps 65536 (fileReading f)
 unfolding fileReading
 fileReading-counts f bytes =
-    either (Keeps 65536) (ltb 65536 (length f)) _ _ (λ _. no-counts 65536) (λ a.
-    either (Keeps 65536) (ltb (length f) 20) _ _ (λ _. no-counts 65536) (λ _.
-    either (Keeps 65536) (majorIs04 f) _ _
-    (λ _. either (Keeps 65536) (ltb (length f) 32) _ _
+    either (Keeps 65536) (eqb (fileRefusal f) 0) _ _
+    (λ z. sections-counts f bytes 65536 (accepted f (eqb-true _ _ z) .small) (length f) nothing 20 (no-counts 65536))
     (λ _. no-counts 65536)
-    (λ _. sections-counts f bytes 65536 (ltb-false _ _ a) (length f) nothing 20 (no-counts 65536)))
-    (λ _. no-counts 65536)))
 
 -- so every reading, with any number of records
 pub reading-bounds : (f : List ℕ) → ((i : ℕ) → getD f i 0 < 256) → Bounds (tablesOf (fileReading f .it))

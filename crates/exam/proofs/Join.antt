@@ -8,12 +8,13 @@ use mathlib.Core.List.{List, [], _∷_}
 use lib.Dec.{eqb}
 use lib.ListN.{getD, take, drop}
 use borrow.Author.Tests.{ne-eqb}
+use Rattle.format.specs.Bytes.{refuse, first}
 use Rattle.format.specs.Insn.{Role, reg, pool, sym as symbol, child, plain, roles, rest, rowAt, operandsAt}
 use Rattle.format.specs.Line.{rowsFrom}
 use Rattle.format.specs.Lookup.{word}
 use Rattle.format.specs.Tree.{layout, whole}
 use Rattle.format.specs.Pattern.{Record, rlens}
-use Rattle.format.specs.Exam.{below, allBelow, operandsBelow, follows, refuse, first, firstAt, at1718, exam1718, exam19, exam20, examineRecord, examineAll, examinePattern}
+use Rattle.format.specs.Exam.{below, allBelow, operandsBelow, follows, firstAt, at1718, exam1718, exam19, exam20, examineRecord, examineAll, examinePattern}
 use Rattle.format.proofs.RowsFrom.{rowsFrom-map}
 use Rattle.flags.specs.Flags.{bare}
 use Rattle.exam.specs.View.{recordAt, patternAt, rlensAt}

@@ -8,10 +8,11 @@ use mathlib.Core.List.{List, _∷_}
 use lib.Dec.{leb}
 use lib.ListN.{getD}
 use borrow.Author.Tests.{le-leb, lt-leb}
+use Rattle.format.specs.Bytes.{refuse}
 use Rattle.format.specs.Rows.{LineRow}
 use Rattle.format.specs.Line.{rising, rowsFrom, lineRowAt}
 use Rattle.format.specs.Pattern.{begins}
-use Rattle.format.specs.Exam.{refuse, firstOf}
+use Rattle.format.specs.Exam.{firstOf}
 use Rattle.exam.specs.View.{targetAt, targets, entries}
 use Rattle.exam.specs.Part.{exam19Of}
 use Rattle.exam.proofs.Rows.{rows-start, rows-turn, rows-end}

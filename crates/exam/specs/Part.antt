@@ -2,9 +2,10 @@
 -- Assumes nothing.
 use Prim.Native.Nat.{ℕ}
 use mathlib.Core.List.{List}
+use Rattle.format.specs.Bytes.{refuse, first}
 use Rattle.format.specs.Line.{rising}
 use Rattle.format.specs.Pattern.{begins}
-use Rattle.format.specs.Exam.{refuse, first, firstOf, exam16, exam1718}
+use Rattle.format.specs.Exam.{firstOf, exam16, exam1718}
 use Rattle.flags.specs.Flags.{bare}
 use Rattle.exam.specs.View.{targets, entries}
 

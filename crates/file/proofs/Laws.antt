@@ -8,8 +8,8 @@ use native.Mathlib.Omega.{arith}
 use lib.ListN.{length}
 use borrow.Author.Tests.{eq-eqb, ne-eqb}
 use Rattle.format.specs.Bytes.{has}
+use Rattle.format.specs.File.{fileRefusal}
 use Rattle.format.specs.Load.{Words}
-use Rattle.marks.specs.Marks.{fileRefusal}
 use Rattle.sections.specs.declared.Progress.{Progress}
 use Rattle.sections.specs.declared.Section.{Section}
 use Rattle.sections.specs.declared.Section.the-variants as section

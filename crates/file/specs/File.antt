@@ -6,13 +6,14 @@ use mathlib.Core.List.{List}
 use lib.Dec.{eqb}
 use lib.ListN.{length}
 use Rattle.format.specs.Bytes.{has}
+use Rattle.format.specs.File.{fileRefusal}
 use Rattle.format.specs.Load.{Words}
 use Rattle.sections.specs.declared.Progress.{Progress}
 use Rattle.sections.specs.declared.Section.{Section}
 use Rattle.sections.specs.declared.Section.the-variants as section
 use Rattle.marks.specs.declared.Mark.{Mark}
 use Rattle.marks.specs.declared.Mark.the-variants as mark-is
-use Rattle.marks.specs.Marks.{markOf, fileRefusal}
+use Rattle.marks.specs.Marks.{markOf}
 use Rattle.sections.specs.Sections.{begun, IrepOut, LvarOut, DbgOut, irepOutOf, lvarOutOf, dbgOutOf, endOutOf}
 use Rattle.file.specs.declared.Loaded.{Loaded}
 use Rattle.file.specs.declared.Loaded.the-variants as loaded-is

@@ -8,10 +8,10 @@ use mathlib.Core.List.{List}
 use lib.Dec.{T, ltb}
 use lib.ListN.{length}
 use borrow.Author.Tests.{ltb-true, ltb-false, le-leb, lt-leb, lt-ltb}
-use Rattle.format.specs.Bytes.{byte}
+use Rattle.format.specs.Bytes.{byte, refuse, first}
 use Rattle.format.specs.Insn.{Flow, on, ends, jumps, may, flow, rowAt, next, signed16, jump, target}
 use Rattle.format.specs.Pattern.{Record, begins, lands}
-use Rattle.format.specs.Exam.{leads, hasTarget, operandsBelow, follows, refuse, first, at1718}
+use Rattle.format.specs.Exam.{leads, hasTarget, operandsBelow, follows, at1718}
 use Rattle.runs.proofs.Begins.{reach-inside, begins-next}
 use Rattle.runs.proofs.Jumps.{jump-wide, operand}
 use Rattle.flags.specs.Digits.{flagInside, flagLast}

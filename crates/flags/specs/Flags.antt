@@ -6,10 +6,10 @@ use mathlib.Core.Bool.{Bool, true, cond, _&&_}
 use mathlib.Core.List.{List, []}
 use lib.Dec.{leb, ltb}
 use lib.ListN.{length, getD}
-use Rattle.format.specs.Bytes.{byte, u16At}
+use Rattle.format.specs.Bytes.{byte, u16At, refuse}
 use Rattle.format.specs.Insn.{Role, reg, pool, sym, child, plain, flow, rowAt, next, signed16}
 use Rattle.format.specs.Pattern.{Record, begins}
-use Rattle.format.specs.Exam.{below, operandsBelow, refuse}
+use Rattle.format.specs.Exam.{below, operandsBelow}
 use Rattle.flags.specs.Digits.{instruction, digitsOf, flagInside, flagLast}
 
 -- what operands have to stay below, by the number of their role: 256 where it is plain

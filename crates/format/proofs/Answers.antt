@@ -3,10 +3,11 @@
 use Prim.Native.Nat.{ℕ, zero, suc, _≤_}
 use native.Mathlib.Omega.{arith}
 use mathlib.Core.Path.{_≡_, refl, ap, _∙_, sym}
-use mathlib.Core.Logic.{_↔_}
-use mathlib.Core.Bool.{Bool, true, false, cond}
+use mathlib.Core.Logic.{_↔_, _⊎_, inl, inr}
+use mathlib.Core.Bool.{Bool, true, false, not, cond}
+use lib.Dec.{T}
 use lib.ListN.{length}
-use Rattle.format.specs.Bytes.{Answer, ok, refused, bind, onAnswer, Step}
+use Rattle.format.specs.Bytes.{Answer, ok, refused, bind, onAnswer, refuse, first, Step}
 use Rattle.format.specs.Reading.{more, inTurn}
 
 -- an answer is a value or a refusal, not both
@@ -62,6 +63,31 @@ module _ {A : Type 0} (P : A → Type 0) (R : ℕ → Type 0) where
   pub chained : {B : Type 0} (Q : B → Type 0) (x : Answer B) (k : B → Answer A) → Holds Q R x → ((b : B) → Q b → Holds P R (k b)) → Holds P R (bind x k)
   chained Q (ok b) k q h = h b q
   chained Q (refused e) k q h = q
+
+-- the first refusal of two, and the refusal of a test
+pub first-zero : (a b : ℕ) → first a b ≡ 0 → (a ≡ 0) × (b ≡ 0)
+first-zero zero b e = (refl, e)
+first-zero (suc a) b e = omega arith
+
+pub zero-first : (a b : ℕ) → a ≡ 0 → b ≡ 0 → first a b ≡ 0
+zero-first zero b p q = q
+zero-first (suc a) b p q = omega arith
+
+pub first-hit : (a b n : ℕ) → first a b ≡ suc n → (a ≡ suc n) ⊎ (b ≡ suc n)
+first-hit zero b n e = inr e
+first-hit (suc a) b n e = inl e
+
+pub refuse-zero : (n : ℕ) (b : Bool) → refuse (suc n) b ≡ 0 → T b
+refuse-zero n true e = tt
+refuse-zero n false e = omega arith
+
+pub refuse-pass : (n : ℕ) (b : Bool) → T b → refuse n b ≡ 0
+refuse-pass n true t = refl
+refuse-pass n false t = absurd t
+
+pub refuse-hit : (k n : ℕ) (b : Bool) → refuse k b ≡ suc n → (k ≡ suc n) × T (not b)
+refuse-hit k n true e = omega arith
+refuse-hit k n false e = (e, tt)
 
 -- it is not refused by 0
 abbrev pub NotZero : {A : Type 0} → Answer A → Type 0

@@ -1,10 +1,10 @@
 -- A file is a list of bytes. What stands at a place of it, as a number, and what reading there answers.
 -- Paper 01, 'Origin': "Figures are base ten, integers high byte first unless said."
 -- Assumes nothing.
-use Prim.Native.Nat.{ℕ, _+_, _-_, _*_, _^_}
-use mathlib.Core.Bool.{Bool, cond}
+use Prim.Native.Nat.{ℕ, zero, suc, _+_, _-_, _*_, _^_}
+use mathlib.Core.Bool.{Bool, true, false, cond, _&&_}
 use mathlib.Core.List.{List, [], _∷_}
-use lib.Dec.{leb, ltb}
+use lib.Dec.{leb, ltb, eqb}
 use lib.Ieee.{Float, binary64, ofBits}
 use lib.IntN.{ℤ, pos, negsuc}
 use lib.ListN.{length, getD}
@@ -23,6 +23,16 @@ bind (refused e) k = refused e
 abbrev pub onAnswer : {A B : Type 0} → Answer A → (A → B) → (ℕ → B) → B
 onAnswer (ok a) k e = k a
 onAnswer (refused n) k e = e n
+
+-- the refusal of a test that does not pass, 0 for none
+abbrev pub refuse : ℕ → Bool → ℕ
+refuse n true = 0
+refuse n false = n
+
+-- the first refusal of two
+abbrev pub first : ℕ → ℕ → ℕ
+first zero n = n
+first (suc m) n = suc m
 
 -- one thing read, and the place after it
 pub record Step (A : Type 0) : Type 0 where
@@ -49,6 +59,17 @@ twoAt f at = byte f at ∷ byte f (at + 1) ∷ []
 
 abbrev pub fourAt : List ℕ → ℕ → List ℕ
 fourAt f at = byte f at ∷ byte f (at + 1) ∷ byte f (at + 2) ∷ byte f (at + 3) ∷ []
+
+-- the two, and the four, bytes at a place are these
+abbrev pub twoAre : List ℕ → ℕ → List ℕ → Bool
+twoAre f at bs = eqb (byte f at) (byte bs 0) && eqb (byte f (at + 1)) (byte bs 1)
+
+abbrev pub fourAre : List ℕ → ℕ → List ℕ → Bool
+fourAre f at bs =
+    eqb (byte f at) (byte bs 0)
+    && eqb (byte f (at + 1)) (byte bs 1)
+    && eqb (byte f (at + 2)) (byte bs 2)
+    && eqb (byte f (at + 3)) (byte bs 3)
 
 -- numbers of two, three and four bytes, high byte first
 abbrev pub u16At : List ℕ → ℕ → ℕ

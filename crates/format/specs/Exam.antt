@@ -7,7 +7,7 @@ use mathlib.Core.Bool.{Bool, true, false, _&&_, not, cond}
 use mathlib.Core.List.{List, [], _∷_}
 use lib.Dec.{T, ltb, leb, eqb}
 use lib.ListN.{length, getD}
-use Rattle.format.specs.Bytes.{Answer, ok, refused, bind}
+use Rattle.format.specs.Bytes.{Answer, ok, refused, bind, refuse, first}
 use Rattle.format.specs.File.{Content}
 use Rattle.format.specs.Load.{Nine, Loaded, loading, laid}
 use Rattle.format.specs.Insn.{Role, reg, pool, sym, child, plain, Flow, on, ends, jumps, may, roles, flow, known, prefix, opcode, rowAt, operandsAt, rest, next}
@@ -131,16 +131,6 @@ pub record FilePasses (f : List ℕ) : Type 0 where
   pub passes : Passes (patternOf f content)
 
 -- Examination. Its answer is a number, 0 where nothing is met.
-
--- n where a test fails
-abbrev pub refuse : ℕ → Bool → ℕ
-refuse n true = 0
-refuse n false = n
-
--- the first refusal of two
-abbrev pub first : ℕ → ℕ → ℕ
-first zero n = n
-first (suc m) n = suc m
 
 -- the first refusal over the instructions, reading from 0; `left` as in `reach`, o the offset of the list's first byte
 unfoldable pub firstAt : (ℕ → ℕ) → List ℕ → ℕ → ℕ → ℕ

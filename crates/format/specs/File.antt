@@ -1,13 +1,13 @@
--- A file, read forward: its header's tests, then its sections. Paper 01, 'Loading' and 'Refusals met along the way'.
+-- A file, read forward: its tests, then its sections. Paper 01, 'Loading' and 'Refusals met along the way'; paper 02, g).
 -- Assumes nothing.
 use Prim.Native.Nat.{ℕ, zero, suc, _+_}
-use mathlib.Core.Bool.{Bool, cond, _&&_}
+use mathlib.Core.Bool.{Bool, cond}
 use mathlib.Core.List.{List, [], _∷_}
 use mathlib.Core.Option.{Option, none, some}
-use lib.Dec.{leb, ltb, eqb}
+use lib.Dec.{leb, eqb}
 use lib.ListN.{length, drop}
-use Rattle.format.specs.Bytes.{Answer, ok, refused, onAnswer, has, byte, u32At}
-use Rattle.format.specs.Headers.{Mark, irep, lvar, dbg, end, markBytes}
+use Rattle.format.specs.Bytes.{Answer, ok, refused, onAnswer, refuse, first, has, twoAre, fourAre, u32At}
+use Rattle.format.specs.Headers.{Mark, irep, lvar, dbg, end, markBytes, riteIdent, major04}
 use Rattle.format.specs.Reading.{Part, part}
 use Rattle.format.specs.Irep.{Rec, irepSection}
 use Rattle.format.specs.Lvar.{Lvar, lvarSection}
@@ -24,11 +24,7 @@ content i l d = record { irep = i; lvar = l; dbg = d }
 
 -- the mark at a place
 abbrev pub isMark : List ℕ → ℕ → Mark → Bool
-isMark f at m =
-    eqb (byte f at) (byte (markBytes m) 0)
-    && eqb (byte f (at + 1)) (byte (markBytes m) 1)
-    && eqb (byte f (at + 2)) (byte (markBytes m) 2)
-    && eqb (byte f (at + 3)) (byte (markBytes m) 3)
+isMark f at m = fourAre f at (markBytes m)
 
 -- a section of which only the size is looked at: "8: after its content, an .. END section .. has size 0"
 unfoldable pub endSection : List ℕ → Answer ℕ
@@ -70,15 +66,30 @@ sections f (suc n) c at =
 abbrev pub nothing : Content
 nothing = content none none none
 
--- "Only major is looked at."
-abbrev pub majorIs04 : List ℕ → Bool
-majorIs04 f = eqb (byte f 4) 48 && eqb (byte f 5) 52
+-- "27 when the first four bytes are not ASCII RITE"
+abbrev pub identIsRite : List ℕ → Bool
+identIsRite f = fourAre f 0 riteIdent
 
--- "1: over 65,536 bytes. 2: under 20 bytes. 3: major is not ASCII 04. 4: under 32 bytes."
+-- "the header's size", high byte first
+abbrev pub statedSize : List ℕ → ℕ
+statedSize f = u32At f 8
+
+-- "3: major is not ASCII 04"
+abbrev pub majorIs04 : List ℕ → Bool
+majorIs04 f = twoAre f 4 major04
+
+-- The refusal of a file by its size and its header, 0 for none. "1: over 65,536 bytes. 2: under 20 bytes." "27 when the first four bytes are not
+-- ASCII RITE, after 2. 28 when the header's size exceeds the file's length, after 27." "3: major is not ASCII 04. 4: under 32 bytes." Nothing
+-- else of the header is looked at.
+unfoldable pub fileRefusal : List ℕ → ℕ
+fileRefusal f =
+    first (refuse 1 (leb (length f) 65536))
+    (first (refuse 2 (leb 20 (length f)))
+    (first (refuse 27 (identIsRite f))
+    (first (refuse 28 (leb (statedSize f) (length f)))
+    (first (refuse 3 (majorIs04 f))
+    (refuse 4 (leb 32 (length f)))))))
+
+-- a file whose tests refuse it is not read; else its sections are, from behind the header on
 unfoldable pub fileReading : List ℕ → Part Content
-fileReading f =
-    cond (ltb 65536 (length f)) (part nothing (refused 1))
-    (cond (ltb (length f) 20) (part nothing (refused 2))
-    (cond (majorIs04 f)
-    (cond (ltb (length f) 32) (part nothing (refused 4)) (sections f (length f) nothing 20))
-    (part nothing (refused 3))))
+fileReading f = cond (eqb (fileRefusal f) 0) (sections f (length f) nothing 20) (part nothing (refused (fileRefusal f)))

@@ -1,4 +1,4 @@
--- The headers of the file, its sections and its records, and the marks of sections. Paper 01, 'Loading'.
+-- The headers of the file, its sections and its records, the ident of a pattern file and the marks of sections. Paper 01, 'Loading'; paper 02, g).
 -- Assumes nothing.
 use Prim.Native.Nat.{ℕ}
 use mathlib.Core.List.{List, [], _∷_}
@@ -24,6 +24,13 @@ fileHeader f =
       compiler = fourAt f 12;
       version = fourAt f 16;
     })
+
+-- "ASCII RITE", "ASCII 04"
+abbrev pub riteIdent : List ℕ
+riteIdent = 82 ∷ 73 ∷ 84 ∷ 69 ∷ []
+
+abbrev pub major04 : List ℕ
+major04 = 48 ∷ 52 ∷ []
 
 -- "Each begins mark 4, size 4"
 pub record SectionHeader : Type 0 where

@@ -15,13 +15,14 @@ use Rattle.format.specs.Reading.{Read}
 use Rattle.format.specs.Irep.{Rec, recordsFrom, irepSection}
 use Rattle.format.specs.Debug.{FileHead, fileLines}
 use Rattle.format.specs.File.{fileReading}
-use Rattle.format.proofs.Answers.{ok-refused, either}
+use Rattle.format.proofs.Answers.{ok-refused, either, Holds}
 use Rattle.layout.proofs.Ends.{bind-ok}
-use Rattle.laws.proofs.Endings.{Ends, records-end, map-ends, reading-ends}
+use Rattle.laws.proofs.Numbers.{Among, readingNumbers}
+use Rattle.laws.proofs.Endings.{Ends, Left, records-end, map-ends, reading-ends}
 
 -- "Sections follow until fewer than 4 bytes are left; those are ignored."
 pub sections-end : (f : List ℕ) (to : ℕ) → fileReading f .end ≡ ok to → length f < to + 4
-sections-end f to e = subst (Ends (λ to. length f < to + 4)) e (reading-ends f)
+sections-end f to e = subst (Holds (Left f) (Among readingNumbers)) e (reading-ends f)
 
 -- "its records, which follow until the place reaches the section size": the place behind the last record
 pub record Reached (f : List ℕ) (base : ℕ) : Type 0 where

@@ -11,14 +11,13 @@ use mathlib.Core.List.{List, [], _∷_}
 use lib.Dec.{T-not, eqb}
 use lib.ListN.{length, getD}
 use borrow.Author.Tests.{ne-eqb}
-use Rattle.format.specs.Bytes.{Answer, ok, refused}
+use Rattle.format.specs.Bytes.{Answer, ok, refused, refuse, first}
 use Rattle.format.specs.File.{Content}
 use Rattle.format.specs.Load.{Nine, tablesOf, used, loading}
 use Rattle.format.specs.Tree.{Whole, whole}
 use Rattle.format.specs.Pattern.{Record, Pattern, patternOf, recAt, blank, rlens}
-use Rattle.format.specs.Exam.{Meets, Passes, refuse, first, exam16, exam1718, exam19, exam20, examineRecord, examineAll, examinePattern, passing, examining, examine}
-use Rattle.format.proofs.Answers.{ok-refused, refused-same}
-use Rattle.runs.proofs.Tests.{refuse-hit, refuse-zero}
+use Rattle.format.specs.Exam.{Meets, Passes, exam16, exam1718, exam19, exam20, examineRecord, examineAll, examinePattern, passing, examining, examine}
+use Rattle.format.proofs.Answers.{ok-refused, refused-same, refuse-hit, refuse-zero}
 use Rattle.runs.proofs.Tree.{whole-iff}
 use Rattle.runs.proofs.Refusal.{passes-iff, refusal-met}
 

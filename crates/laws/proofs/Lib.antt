@@ -4,7 +4,9 @@ pub mod Walk
 pub mod Audit
 pub mod Exact
 pub mod Demand3
+pub mod Numbers
 pub mod Endings
 pub mod Counts
 pub mod Refusals
+pub mod Header
 pub mod Samples

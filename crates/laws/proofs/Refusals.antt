@@ -1,15 +1,14 @@
--- Demand 1: a load refuses only by 1 to 14, an examination by 1 to 20, follow by 1 to 21, a lookup by 22 alone and fetch by 23 and 24 alone, so no
--- refusal is 0; and after a refusal every lent table is zero throughout.
+-- Demand 1: a load refuses only by 1 to 14, 27 and 28, an examination by 1 to 20, 27 and 28, follow by 1 to 21, 27 and 28, a lookup by 22 alone and
+-- fetch by 23 and 24 alone, so no refusal is 0; and after a refusal every lent table is zero throughout.
 -- Assumes nothing.
-use Prim.Native.Nat.{ℕ, zero, suc, _+_, _/_, _≤_}
+use Prim.Native.Nat.{ℕ, zero, suc, _+_, _/_}
 use native.Mathlib.Nat.{sub-zero}
 use native.Mathlib.Omega.{arith}
 use mathlib.Core.Path.{_≡_, refl, sym, subst}
 use mathlib.Core.Logic.{_⊎_, inl, inr}
 use mathlib.Core.Bool.{false, _&&_, _||_, cond}
 use mathlib.Core.List.{List}
-use lib.Dec.{leb, ltb, eqb, leb→le}
-use lib.Ieee.Fits.{and-l, and-r}
+use lib.Dec.{leb, ltb, eqb}
 use lib.ListN.{length, replicate}
 use borrow.Author.Tests.{ne-eqb}
 use Rattle.format.specs.Bytes.{Answer, ok, refused, bind, has, byte}
@@ -21,20 +20,11 @@ use Rattle.format.specs.Lookup as look
 use Rattle.format.specs.Pattern.{Pattern, patternOf}
 use Rattle.format.specs.Exam.{Meets, meets15, meets16, meets17, meets18, meets19, meets20, examinePattern, passing, examining, examine}
 use Rattle.format.specs.Run.{kind as due-kind, choices, following, Followed, follow, laidFrames, frameTable}
-use Rattle.format.proofs.Answers.{ok-refused, either, Refuses, weaker, answered, tested, chained}
+use Rattle.format.proofs.Answers.{ok-refused, either, Refuses, NotZero, weaker, answered, tested, chained}
 use Rattle.runs.proofs.Refusal.{refusal-met}
-use Rattle.laws.proofs.Endings.{UpTo, reading-ends}
+use Rattle.laws.proofs.Numbers.{Among, readingNumbers, loadNumbers, conditionNumbers, examineNumbers, followNumbers, further, above-zero}
+use Rattle.laws.proofs.Endings.{reading-ends}
 use Rattle.laws.proofs.Demand3.{choices-21}
-
--- a number from 1 to hi, by its test; and a number among fewer is among more
-abbrev pub Among : ℕ → ℕ → Type 0
-Among hi e = (1 ≤ e) × (e ≤ hi)
-
-among : (hi e : ℕ) → UpTo hi e → Among hi e
-among hi e t = (leb→le 1 e (and-l (leb 1 e) (leb e hi) t), leb→le e hi (and-r (leb 1 e) (leb e hi) t))
-
-further : (lo hi e : ℕ) → lo ≤ hi → Among lo e → Among hi e
-further lo hi e h x = let k = x .1 in (x .0, omega arith)
 
 -- every table is zero throughout
 pub record Zero (m : Nine) (w : Words) : Type 0 where
@@ -72,73 +62,81 @@ laid-refuses m R (ok c) r = tt
 laid-refuses m R (refused e) r = r
 
 -- a condition's number
-meets-among : (p : Pattern) (n : ℕ) → Meets p n → Among 20 n
-meets-among p n (meets15 x) = among 20 15 tt
-meets-among p n (meets16 x) = among 20 16 tt
-meets-among p n (meets17 x) = among 20 17 tt
-meets-among p n (meets18 x) = among 20 18 tt
-meets-among p n (meets19 x) = among 20 19 tt
-meets-among p n (meets20 x) = among 20 20 tt
+meets-among : (p : Pattern) (n : ℕ) → Meets p n → Among conditionNumbers n
+meets-among p n (meets15 x) = tt
+meets-among p n (meets16 x) = tt
+meets-among p n (meets17 x) = tt
+meets-among p n (meets18 x) = tt
+meets-among p n (meets19 x) = tt
+meets-among p n (meets20 x) = tt
 
 module _ (f : List ℕ) where
-  loading-refuses : (m : Nine) → Refuses (Among 14) (loading f m)
+  loading-refuses : (m : Nine) → Refuses (Among loadNumbers) (loading f m)
   unfolding loading ending
   loading-refuses m =
       let p = fileReading f in
-      tested _ _ (fits 1024 m (used (tablesOf (p .it)))) _ 14 (among 14 14 tt)
-      (λ _. answered _ _ (Refuses (Among 14)) (p .end) _ _ (reading-ends f) (λ _ _. tt) (λ e r. further 13 14 e (omega arith) (among 13 e r)))
+      tested _ _ (fits 1024 m (used (tablesOf (p .it)))) _ 14 tt
+      (λ _. answered _ _ (Refuses (Among loadNumbers)) (p .end) _ _ (reading-ends f) (λ _ _. tt) (further readingNumbers loadNumbers tt))
 
-  passing-refuses : (c : Content) → Refuses (Among 20) (passing f c)
+  passing-refuses : (c : Content) → Refuses (Among conditionNumbers) (passing f c)
   unfolding passing
   passing-refuses c = go (examinePattern (patternOf f c)) refl
     where
-      go : (k : ℕ) → examinePattern (patternOf f c) ≡ k → Refuses (Among 20) (cond (eqb k 0) (ok c) (refused k))
+      go : (k : ℕ) → examinePattern (patternOf f c) ≡ k → Refuses (Among conditionNumbers) (cond (eqb k 0) (ok c) (refused k))
       go zero e = tt
       go (suc k) e =
           let q : eqb (suc k) 0 ≡ false = ne-eqb (suc k) 0 (λ (x : suc k ≡ 0). omega arith) in
           rw q (meets-among (patternOf f c) (suc k) (refusal-met (patternOf f c) k e))
 
   module _ (m : Nine) where
-    -- a load's number among those of what comes behind it
-    load-among : (hi : ℕ) → 14 ≤ hi → Refuses (Among hi) (loading f m)
-    load-among hi h = weaker _ _ _ (loading f m) (loading-refuses m) (λ e x. further 14 hi e h x)
-
-    examining-refuses : Refuses (Among 20) (examining f m)
+    examining-refuses : Refuses (Among examineNumbers) (examining f m)
     unfolding examining
-    examining-refuses = chained _ _ _ (loading f m) (passing f) (load-among 20 (omega arith)) (λ c _. passing-refuses c)
+    examining-refuses =
+        chained _ _ _ (loading f m) (passing f) (weaker _ _ _ (loading f m) (loading-refuses m) (further loadNumbers examineNumbers tt))
+        (λ c _. weaker _ _ _ (passing f c) (passing-refuses c) (further conditionNumbers examineNumbers tt))
 
-    following-refuses : (n : ℕ) (bs : List ℕ) → Refuses (Among 21) (following f m n bs)
+    following-refuses : (n : ℕ) (bs : List ℕ) → Refuses (Among followNumbers) (following f m n bs)
     unfolding following
     following-refuses n bs =
-        chained _ _ _ (loading f m) _ (load-among 21 (omega arith)) (λ c _.
-        tested _ _ (leb (length (recordsOf c)) (n / 2)) _ 14 (among 21 14 tt) (λ _.
-        chained _ _ _ (passing f c) _ (weaker _ _ _ (passing f c) (passing-refuses c) (λ e x. further 20 21 e (omega arith) x)) (λ _ _.
-        chained _ _ _ (choices bs) _ (weaker _ _ _ (choices bs) (choices-21 bs due-kind) (λ e x. rw x (among 21 21 tt))) (λ cs _. tt))))
+        chained _ _ _ (loading f m) _ (weaker _ _ _ (loading f m) (loading-refuses m) (further loadNumbers followNumbers tt)) (λ c _.
+        tested _ _ (leb (length (recordsOf c)) (n / 2)) _ 14 tt (λ _.
+        chained _ _ _ (passing f c) _ (weaker _ _ _ (passing f c) (passing-refuses c) (further conditionNumbers followNumbers tt)) (λ _ _.
+        chained _ _ _ (choices bs) _ (weaker _ _ _ (choices bs) (choices-21 bs due-kind) (λ e x. rw x tt)) (λ cs _. tt))))
 
     -- a load
-    pub load-number : (e : ℕ) → load f m .answer ≡ refused e → (1 ≤ e) × (e ≤ 14)
+    pub load-number : (e : ℕ) → load f m .answer ≡ refused e → Among loadNumbers e
     unfolding load
-    load-number e q = subst (Refuses (Among 14)) q (laid-refuses m (Among 14) (loading f m) (loading-refuses m))
+    load-number e q = subst (Refuses (Among loadNumbers)) q (laid-refuses m (Among loadNumbers) (loading f m) (loading-refuses m))
+
+    pub load-not-zero : NotZero (load f m .answer)
+    load-not-zero e q = above-zero loadNumbers refl e (load-number e q)
 
     pub load-zero : (e : ℕ) → load f m .answer ≡ refused e → Zero m (load f m .tables)
     unfolding load
     load-zero e q = laid-zero m e (loading f m) q
 
     -- an examination
-    pub examine-number : (e : ℕ) → examine f m .answer ≡ refused e → (1 ≤ e) × (e ≤ 20)
+    pub examine-number : (e : ℕ) → examine f m .answer ≡ refused e → Among examineNumbers e
     unfolding examine
-    examine-number e q = subst (Refuses (Among 20)) q (laid-refuses m (Among 20) (examining f m) examining-refuses)
+    examine-number e q = subst (Refuses (Among examineNumbers)) q (laid-refuses m (Among examineNumbers) (examining f m) examining-refuses)
+
+    pub examine-not-zero : NotZero (examine f m .answer)
+    examine-not-zero e q = above-zero examineNumbers refl e (examine-number e q)
 
     pub examine-zero : (e : ℕ) → examine f m .answer ≡ refused e → Zero m (examine f m .tables)
     unfolding examine
     examine-zero e q = laid-zero m e (examining f m) q
 
     -- follow
-    pub follow-number : (n : ℕ) (bs : List ℕ) (e : ℕ) → follow f m n bs .answer ≡ refused e → (1 ≤ e) × (e ≤ 21)
+    pub follow-number : (n : ℕ) (bs : List ℕ) (e : ℕ) → follow f m n bs .answer ≡ refused e → Among followNumbers e
     unfolding follow
     follow-number n bs e q =
-        subst (Refuses (Among 21)) q
-        (answered _ _ (λ (x : Followed). Refuses (Among 21) (x .answer)) (following f m n bs) _ _ (following-refuses n bs) (λ _ _. tt) (λ _ r. r))
+        let R : ℕ → Type 0 = Among followNumbers in
+        subst (Refuses R) q
+        (answered _ _ (λ (x : Followed). Refuses R (x .answer)) (following f m n bs) _ _ (following-refuses n bs) (λ _ _. tt) (λ _ r. r))
+
+    pub follow-not-zero : (n : ℕ) (bs : List ℕ) → NotZero (follow f m n bs .answer)
+    follow-not-zero n bs e q = above-zero followNumbers refl e (follow-number n bs e q)
 
     pub follow-zero : (n : ℕ) (bs : List ℕ) (e : ℕ) → follow f m n bs .answer ≡ refused e
         → Zero m (follow f m n bs .tables) × (follow f m n bs .frames ≡ replicate n 0)

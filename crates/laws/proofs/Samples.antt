@@ -1,11 +1,12 @@
--- Paper 01's starred samples, as one table of the definitions, with some that it does not star; and sample A as a file that passes.
+-- Paper 01's starred samples, as one table of the definitions, with some that it does not star, those of ident and size as paper 02's g) has them;
+-- and sample A as a file that passes.
 -- Assumes nothing.
 use Prim.Native.Nat.{ℕ}
 use mathlib.Core.Path.{_≡_, refl}
 use mathlib.Core.Bool.{true, false}
-use mathlib.Core.List.{List, [], _∷_}
+use mathlib.Core.List.{List, [], _∷_, _++_}
 use mathlib.Core.Option.{none, some}
-use lib.ListN.{replicate}
+use lib.ListN.{replicate, take, set}
 use Rattle.format.specs.Bytes.{ok, refused, step}
 use Rattle.format.specs.Rows.{lineRow}
 use Rattle.format.specs.Insn.{W, S, table, row, operands, opcode, rest, lastOf, jump, target, insn, fetchAs, fetch}
@@ -14,7 +15,7 @@ use Rattle.format.specs.Walk.{walk}
 use Rattle.format.specs.Lvar.{noZero, plainText, nameEntry, recordNames, lvarSection}
 use Rattle.format.specs.Packed.{packedFrom, packed, packedEntry}
 use Rattle.format.specs.Debug.{fileHead, mapEntry, mapLines, filesFrom, debugRecord, debugContent, debugSection}
-use Rattle.format.specs.File.{endSection, sectionAt, sections, fileReading}
+use Rattle.format.specs.File.{endSection, sectionAt, sections, fileRefusal, fileReading}
 use Rattle.format.specs.Load.{Nine, fits, ending, loading, load}
 use Rattle.format.specs.Line.{halve, lineAt, rising}
 use Rattle.format.specs.Tree.{layout, whole, span, childOf}
@@ -35,6 +36,14 @@ fileA =
     ∷ 0 ∷ 0 ∷ 0 ∷ 24 ∷ 0 ∷ 1 ∷ 0 ∷ 2 ∷ 0 ∷ 0 ∷ 0 ∷ 0 ∷ 0 ∷ 0 ∷ 0 ∷ 4 ∷ 17 ∷ 1 ∷ 61 ∷ 1 ∷ 0 ∷ 0 ∷ 0 ∷ 0
     ∷ 69 ∷ 78 ∷ 68 ∷ 0 ∷ 0 ∷ 0 ∷ 0 ∷ 8 ∷ []
 
+-- A with another size in its header, below 256
+sized : ℕ → List ℕ
+sized n = set fileA 11 n
+
+-- "A's first 20 bytes, then END, size 12 and four zero bytes", with these two sizes: "The 32- and 31-byte samples then carry size 31."
+endAlone : ℕ → ℕ → List ℕ
+endAlone n size = take 20 (sized n) ++ 69 ∷ 78 ∷ 68 ∷ 0 ∷ 0 ∷ 0 ∷ 0 ∷ size ∷ 0 ∷ 0 ∷ 0 ∷ 0 ∷ []
+
 -- tables with so many words for records, and none for the rest
 lent : ℕ → Nine
 lent n = record { records = n; handlers = 0; pool = 0; symbols = 0; strings = 0; names = 0; fileNames = 0; files = 0; lines = 0 }
@@ -46,6 +55,20 @@ alone c = record { nregs = 2; rlen = 0; npool = 0; nsyms = 0; code = c; handlers
 record Table : Type 0 where
   a-loads : load fileA (lent 38) .answer ≡ ok (lent 1)
   a-row : load fileA (lent 38) .tables .records ≡ 24 ∷ 1 ∷ 2 ∷ 0 ∷ 0 ∷ 4 ∷ 48 ∷ replicate 31 0
+  a-three-zeros : load (fileA ++ replicate 3 0) (lent 38) .answer ≡ ok (lent 1)
+  a-four-zeros : load (fileA ++ replicate 4 0) (lent 38) .answer ≡ refused 5
+  end-loads : load (endAlone 31 12) (lent 38) .answer ≡ ok (lent 0)
+  end-no-tree : examine (endAlone 31 12) (lent 38) .answer ≡ refused 15
+  end-of-size-0 : load (endAlone 31 0) (lent 38) .answer ≡ refused 8
+  end-of-31-bytes : load (take 31 (endAlone 31 12)) (lent 38) .answer ≡ refused 4
+  end-states-32 : load (take 31 (endAlone 32 12)) (lent 38) .answer ≡ refused 28
+  a-states-0 : load (sized 0) (lent 38) .answer ≡ ok (lent 1)
+  a-states-63 : load (sized 63) (lent 38) .answer ≡ ok (lent 1)
+  a-states-65 : load (sized 65) (lent 38) .answer ≡ refused 28
+  a-low-byte-first : load (set (sized 0) 8 64) (lent 38) .answer ≡ refused 28
+  a-no-ident : load (set fileA 3 70) (lent 38) .answer ≡ refused 27
+  ident-before-size : load (set (sized 65) 0 114) (lent 38) .answer ≡ refused 27
+  size-before-major : load (set (sized 65) 5 51) (lent 38) .answer ≡ refused 28
   packed-two : packed (129 ∷ 1 ∷ []) 0 ≡ ok (step 129 2)
   packed-most : packed (255 ∷ 255 ∷ 255 ∷ 255 ∷ 15 ∷ []) 0 ≡ ok (step 4294967295 5)
   packed-dropped : packed (255 ∷ 255 ∷ 255 ∷ 255 ∷ 127 ∷ []) 0 ≡ ok (step 4294967295 5)
@@ -77,12 +100,27 @@ record Table : Type 0 where
 samples : Table
 unfolding table row operands opcode rest lastOf jump target fetchAs fetch packedFrom packed halve lineAt handler zeroLast text bigInteger poolValue
     poolEntry counted headAt bodyAt recordAt recordsFrom irepSection walk noZero plainText nameEntry recordNames lvarSection fileHead mapEntry
-    mapLines filesFrom debugRecord debugContent debugSection packedEntry endSection sectionAt sections fileReading fits ending loading load lent alone
+    mapLines filesFrom debugRecord debugContent debugSection packedEntry endSection sectionAt sections fileRefusal fileReading fits ending loading load sized
+    endAlone lent alone
     rising layout span childOf reach lands readable below allBelow operandsBelow follows firstAt firstOf exam16 exam1718 exam19 exam20 examineRecord
     examineAll examinePattern passing examining examine childOperand move oneStep runFrom choicesFrom standing laidFrames frameTable following follow
 samples = record {
   a-loads = refl;
   a-row = refl;
+  a-three-zeros = refl;
+  a-four-zeros = refl;
+  end-loads = refl;
+  end-no-tree = refl;
+  end-of-size-0 = refl;
+  end-of-31-bytes = refl;
+  end-states-32 = refl;
+  a-states-0 = refl;
+  a-states-63 = refl;
+  a-states-65 = refl;
+  a-low-byte-first = refl;
+  a-no-ident = refl;
+  ident-before-size = refl;
+  size-before-major = refl;
   packed-two = refl;
   packed-most = refl;
   packed-dropped = refl;

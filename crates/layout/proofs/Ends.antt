@@ -1,18 +1,19 @@
 -- What holds of what was read, where the reading ended well: of each row, of a part, and of a whole file.
 -- Assumes nothing.
-use Prim.Native.Nat.{ℕ, zero, suc, _+_, _≤_, _<_}
+use Prim.Native.Nat.{ℕ, zero, suc, _+_, _<_}
 use native.Mathlib.Nat.{le-of-suc-le-suc}
 use native.Mathlib.Omega.{arith}
 use mathlib.Core.Path.{_≡_, refl}
 use mathlib.Core.Bool.{Bool, true, false, cond}
 use mathlib.Core.List.{List, [], _∷_}
-use lib.Dec.{ltb}
+use lib.Dec.{eqb}
 use lib.ListN.{length, getD}
-use borrow.Author.Tests.{ltb-false}
+use borrow.Author.Tests.{eqb-true}
 use Rattle.format.specs.Bytes.{Answer, ok, refused, bind, onAnswer, Step, has}
 use Rattle.format.specs.Reading.{Read, Part, part, andThen, more, inTurn}
-use Rattle.format.specs.File.{Content, sectionAt, sections, nothing, majorIs04, fileReading}
+use Rattle.format.specs.File.{Content, sectionAt, sections, nothing, fileRefusal, fileReading}
 use Rattle.format.proofs.Answers.{ok-refused, either, Answers}
+use Rattle.format.proofs.File.{Accepted, accepted}
 
 -- an answer that was made of another's value, and a reading behind another: the first was not refused
 pub bind-ok : {A B : Type 0} (x : Answer A) (k : A → Answer B) (b : B) → bind x k ≡ ok b → (a : A) × (x ≡ ok a) × (k a ≡ ok b)
@@ -68,14 +69,10 @@ module _ (f : List ℕ) (P : Content → Type 0) (keeps : (c : Content) (at : �
 
   pub reading-keeps : P nothing → Good P (fileReading f)
   unfolding fileReading
-  reading-keeps x =
-      either (Good P) (ltb 65536 (length f)) _ _ (λ _ to e. x) (λ _.
-      either (Good P) (ltb (length f) 20) _ _ (λ _ to e. x) (λ _.
-      either (Good P) (majorIs04 f) _ _
-      (λ _. either (Good P) (ltb (length f) 32) _ _ (λ _ to e. x) (λ _. sections-keep (length f) nothing 20 x))
-      (λ _ to e. x)))
+  reading-keeps x = either (Good P) (eqb (fileRefusal f) 0) _ _ (λ _. sections-keep (length f) nothing 20 x) (λ _ to e. x)
 
--- a file that nothing refuses is small
-pub reading-small : (f : List ℕ) → Good (λ _. length f ≤ 65536) (fileReading f)
+-- a file that nothing refuses is one that its tests accept
+pub reading-accepted : (f : List ℕ) → Good (λ _. Accepted f) (fileReading f)
 unfolding fileReading
-reading-small f = either (Good (λ _. length f ≤ 65536)) (ltb 65536 (length f)) _ _ (λ _ to e. absurd (ok-refused e)) (λ a to e. ltb-false _ _ a)
+reading-accepted f =
+    either (Good (λ _. Accepted f)) (eqb (fileRefusal f) 0) _ _ (λ z to e. accepted f (eqb-true _ _ z)) (λ _ to e. absurd (ok-refused e))

@@ -23,7 +23,7 @@ use Rattle.format.specs.File.{Content, isMark, once, afterIrep, sectionAt, noth
 use Rattle.format.specs.Load.{Nine, recordsOf, stringsOf, namesOf, fileNamesOf, filesOf, tablesOf, used, fits, ending, loading}
 use Rattle.format.proofs.Table.{both}
 use Rattle.format.proofs.Answers.{ok-refused, either, Answers, tested, chained, inTurn-all}
-use Rattle.layout.proofs.Ends.{bind-ok, andThen-ok, Each, each-none, each-more, inTurn-each, Good, GoodRows, reading-keeps, reading-small}
+use Rattle.layout.proofs.Ends.{bind-ok, andThen-ok, Each, each-none, each-more, inTurn-each, Good, GoodRows, reading-keeps, reading-accepted}
 
 -- bytes inside a file of n bytes
 abbrev pub TextInside : ℕ → TextRow → Type 0
@@ -362,7 +362,7 @@ module _ (f : List ℕ) where
 
 -- Of a file that nothing refuses, all that was read is inside.
 pub reading-inside : (f : List ℕ) (to : ℕ) → fileReading f .end ≡ ok to → Inside f (fileReading f .it)
-reading-inside f to e = reading-keeps f (Inside f) (section-inside f) (nothing-inside f (reading-small f to e)) to e
+reading-inside f to e = reading-keeps f (Inside f) (section-inside f) (nothing-inside f (reading-accepted f to e .small)) to e
 
 -- so each record is; and the file is small
 pub records-inside : (f : List ℕ) (to : ℕ) → fileReading f .end ≡ ok to → (i : ℕ) (d : Rec) → i < length (recordsOf (fileReading f .it))
@@ -370,7 +370,7 @@ pub records-inside : (f : List ℕ) (to : ℕ) → fileReading f .end ≡ ok to 
 records-inside f to e = reading-inside f to e .records
 
 pub small : (f : List ℕ) (to : ℕ) → fileReading f .end ≡ ok to → length f ≤ 65536
-small f to e = reading-small f to e
+small f to e = reading-accepted f to e .small
 
 -- A load that is not refused is a reading that nothing refuses, and whose rows fit the tables.
 pub loading-reading : (f : List ℕ) (m : Nine) (c : Content) → loading f m ≡ ok c

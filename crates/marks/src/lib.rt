@@ -1,13 +1,17 @@
 // What is tested of a file without tables: its size and header, the mark of a section, the size of END.
 use binfmt::Field32;
+use binfmt::be32_to_u32;
 use headers::RiteBinaryHeader;
 use headers::section_size;
 ghost use mathlib.Core.Path.{_≡_};
+ghost use mathlib.Core.List.{[], _∷_};
 ghost use Prim.Native.Nat.{_+_, _≤_};
 ghost use lib.ListN.{length};
-ghost use Rattle.format.specs.File.{endSection};
+ghost use Rattle.format.specs.Bytes.{fourAre, twoAre};
+ghost use Rattle.format.specs.Headers.{riteIdent, major04};
+ghost use Rattle.format.specs.File.{endSection, fileRefusal};
 ghost use Rattle.marks.specs.Answers.{sizeOf};
-ghost use Rattle.marks.specs.Marks.{matches, markOf, fileRefusal};
+ghost use Rattle.marks.specs.Marks.{markOf};
 
 // A section's size, or a refusal's number.
 pub enum Size {
@@ -27,7 +31,7 @@ pub enum Mark {
 // Whether the four bytes at a place are these.
 fn is_mark(f: &[u8], at: usize, a: u8, b: u8, c: u8, d: u8) -> bool
     requires { ⌜ at + 4 ≤ length (now f) ⌝ }
-    ensures { λ r. ⌜ r ≡ matches (now (f .entry)) at a b c d ⌝ }
+    ensures { λ r. ⌜ r ≡ fourAre (now (f .entry)) at (a ∷ b ∷ c ∷ d ∷ []) ⌝ }
 {
     if f[at] != a {
         return false;
@@ -77,6 +81,32 @@ pub fn section_end(f: &[u8]) -> Size
     Size::Stated(size)
 }
 
+// Whether an ident is that of a pattern file.
+fn is_rite(ident: [u8; 4]) -> bool
+    ensures { λ r. ⌜ r ≡ fourAre ident 0 riteIdent ⌝ }
+{
+    if ident[0] != b'R' {
+        return false;
+    }
+    if ident[1] != b'I' {
+        return false;
+    }
+    if ident[2] != b'T' {
+        return false;
+    }
+    ident[3] == b'E'
+}
+
+// Whether a major version is the one that is read.
+fn is_04(major: [u8; 2]) -> bool
+    ensures { λ r. ⌜ r ≡ twoAre major 0 major04 ⌝ }
+{
+    if major[0] != b'0' {
+        return false;
+    }
+    major[1] == b'4'
+}
+
 // The refusal of a file by its size and its header, 0 for none.
 pub fn file_refusal(f: &[u8]) -> u8
     ensures { λ r. ⌜ r ≡ fileRefusal (now (f .entry)) ⌝ }
@@ -89,11 +119,19 @@ pub fn file_refusal(f: &[u8]) -> u8
         return 2;
     }
     let header = h.header;
+    let ident = header.ident;
+    let rite = is_rite(ident);
+    let size = header.size;
+    let stated = be32_to_u32(size) as usize;
     let major = header.major_version;
-    if major[0] != b'0' {
-        return 3;
+    let supported = is_04(major);
+    if !rite {
+        return 27;
     }
-    if major[1] != b'4' {
+    if f.len() < stated {
+        return 28;
+    }
+    if !supported {
         return 3;
     }
     if f.len() < 32 {

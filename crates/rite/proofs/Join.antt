@@ -16,7 +16,7 @@ use Rattle.format.specs.Rows.{NameRow, recordWords}
 use Rattle.format.specs.Irep.{Rec, irepSection}
 use Rattle.format.specs.Lvar.{Lvar, lvarSection}
 use Rattle.format.specs.Debug.{File, Debug, debugSection}
-use Rattle.format.specs.File.{Content, content, nothing, isMark, majorIs04, once, afterIrep, endSection, sectionAt, sections, fileReading}
+use Rattle.format.specs.File.{Content, content, nothing, isMark, once, afterIrep, endSection, sectionAt, sections, fileRefusal, fileReading}
 use Rattle.format.specs.Load.{Nine, Words, tablesOf, wordsOf, recordsOf, namesOf, filesOf, joined, start, used, fits, ending, loading, load}
 use Rattle.rows.specs.Table.{rowCount}
 use Rattle.rows.proofs.Join.{Ran, length-table}
@@ -39,7 +39,7 @@ use Rattle.marks.specs.declared.Mark.the-variants as mark-is
 use Rattle.file.specs.declared.Loaded.{Loaded}
 use Rattle.file.specs.declared.Loaded.the-variants as loaded-is
 use Rattle.rite.specs.Answers.{loadedOf}
-use Rattle.marks.specs.Marks.{markOf, fileRefusal}
+use Rattle.marks.specs.Marks.{markOf}
 use Rattle.sections.specs.Sections.{begun, irepOutOf, lvarOutOf, dbgOutOf, endOutOf}
 use Rattle.file.specs.File.{Out, out, byMark, FileOut, loaded, sectionOut, sectionsOut, fileOut}
 
@@ -281,19 +281,14 @@ module _ (limit : ℕ) (m : Nine) (f : List ℕ) where
 
   -- a file, with its tests
   pub file-ran : FileRan (fileReading f) (fileOut f limit (held-words nothing))
-  unfolding fileReading fileOut fileRefusal
-  file-ran = by-size (ltb 65536 (length f)) (ltb (length f) 20) (majorIs04 f) (ltb (length f) 32)
+  unfolding fileReading fileOut
+  file-ran = by-tests (eqb (fileRefusal f) 0)
     where
-      by-size : (a b c d : Bool)
-          → FileRan
-          (cond a (part nothing (refused 1)) (cond b (part nothing (refused 2)) (cond c (cond d (part nothing (refused 4)) (sections f (length f) nothing 20)) (part nothing (refused 3)))))
-          (let k = cond a 1 (cond b 2 (cond c (cond d 4 0) 3)) in
-          cond (eqb k 0) (sectionsOut f limit (length f) 20 (held-words nothing) begun) (loaded (loaded-is.Refused k) (held-words nothing)))
-      by-size true b c d = Ran.stop 1 refl nothing-room refl
-      by-size false true c d = Ran.stop 2 refl nothing-room refl
-      by-size false false false d = Ran.stop 3 refl nothing-room refl
-      by-size false false true true = Ran.stop 4 refl nothing-room refl
-      by-size false false true false = sections-ran (length f) nothing 20 tt nothing-room
+      by-tests : (b : Bool)
+          → FileRan (cond b (sections f (length f) nothing 20) (part nothing (refused (fileRefusal f))))
+          (cond b (sectionsOut f limit (length f) 20 (held-words nothing) begun) (loaded (loaded-is.Refused (fileRefusal f)) (held-words nothing)))
+      by-tests true = sections-ran (length f) nothing 20 tt nothing-room
+      by-tests false = Ran.stop (fileRefusal f) refl nothing-room refl
 
 -- THE JOIN: what the sections over zeroed tables come to is the load of the file's reading
 module _ (m : Nine) (f : List ℕ) (bytes : (i : ℕ) → getD f i 0 < 256) where

@@ -10,8 +10,10 @@ use lib.ListN.{length, getD}
 use Rattle.format.specs.Line.{rising}
 use Rattle.format.specs.Tree.{whole}
 use Rattle.format.specs.Pattern.{Record, Pattern, ilen, clen, recAt, blank, begins, rlens}
-use Rattle.format.specs.Exam.{readable, operandsBelow, follows, refuse, firstAt, at16, at1718, exam16, exam1718, exam19, exam20, examineRecord, examineAll, examinePattern}
-use Rattle.runs.proofs.Tests.{first-zero, refuse-zero, firstAt-zero, firstOf-zero}
+use Rattle.format.specs.Bytes.{refuse}
+use Rattle.format.specs.Exam.{readable, operandsBelow, follows, firstAt, at16, at1718, exam16, exam1718, exam19, exam20, examineRecord, examineAll, examinePattern}
+use Rattle.format.proofs.Answers.{first-zero, refuse-zero}
+use Rattle.runs.proofs.Tests.{firstAt-zero, firstOf-zero}
 
 pub record Good (r : Record) : Type 0 where
   pub filled : 0 < ilen r

@@ -12,11 +12,11 @@ use mathlib.Core.Logic.{_⊎_, inl, inr}
 use Rattle.runs.proofs.Line.{cases}
 use lib.ListN.{length, getD, drop, length-drop, drop-of-length-le}
 use lib.Seq.{drop-cons, drop-drop, drop-nil}
-use Rattle.format.specs.Bytes.{byte}
+use Rattle.format.specs.Bytes.{byte, first}
 use Rattle.format.specs.Insn.{rest, next}
 use Rattle.format.specs.Tree.{span, layout, childOf}
 use Rattle.format.specs.Pattern.{reach, begins}
-use Rattle.format.specs.Exam.{first, firstAt}
+use Rattle.format.specs.Exam.{firstAt}
 use native.Mathlib.Numerals.{add-one}
 use Rattle.runs.proofs.Tree.{kid-closed, span-zero, span-nil}
 

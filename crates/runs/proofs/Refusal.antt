@@ -15,11 +15,13 @@ use Rattle.format.specs.Line.{entry, rising}
 use Rattle.format.specs.Tree.{Whole, whole}
 use Rattle.format.specs.Pattern.{Record, Pattern, ilen, recAt, blank, begins, lands, rlens}
 use Rattle.format.specs.Exam.{Below, leads, hasNext, hasTarget, readable, operandsBelow, follows, Bad16, Bad17, Bad18, Bad19, Bad20, Some, Meets}
-use Rattle.format.specs.Exam.{meets15, meets16, meets17, meets18, meets19, meets20, Passes, refuse, first, firstAt, at16, at1718, exam16, exam1718}
+use Rattle.format.specs.Bytes.{refuse, first}
+use Rattle.format.specs.Exam.{meets15, meets16, meets17, meets18, meets19, meets20, Passes, firstAt, at16, at1718, exam16, exam1718}
 use Rattle.format.specs.Exam.{exam19, exam20, examineRecord, examineAll, examinePattern}
 use Rattle.runs.proofs.Roles.{all-below, args-fit, Above, some-above}
 use Rattle.format.proofs.Table.{both}
-use Rattle.runs.proofs.Tests.{first-zero, zero-first, refuse-zero, refuse-pass, first-hit, refuse-hit, Hit, firstAt-hit, firstOf-hit}
+use Rattle.format.proofs.Answers.{first-zero, zero-first, refuse-zero, refuse-pass, first-hit, refuse-hit}
+use Rattle.runs.proofs.Tests.{Hit, firstAt-hit, firstOf-hit}
 use Rattle.runs.proofs.Tree.{whole-iff}
 use Rattle.runs.proofs.Line.{mono}
 use Rattle.runs.proofs.Exact.{GoodFile, good-file}

@@ -5,37 +5,13 @@ use native.Mathlib.Nat.{le-of-suc-le-suc, add-zero, add-suc, suc-add}
 use native.Mathlib.Omega.{arith}
 use mathlib.Core.Path.{_≡_, refl}
 use mathlib.Core.Logic.{_⊎_, inl, inr}
-use mathlib.Core.Bool.{Bool, true, false, not}
 use mathlib.Core.List.{List, [], _∷_}
 use lib.Dec.{T}
 use lib.ListN.{length, getD}
 use Rattle.format.specs.Insn.{rest}
 use Rattle.format.specs.Pattern.{reach}
-use Rattle.format.specs.Exam.{refuse, first, firstAt, firstOf}
-
-pub first-zero : (a b : ℕ) → first a b ≡ 0 → (a ≡ 0) × (b ≡ 0)
-first-zero zero b e = (refl, e)
-first-zero (suc a) b e = omega arith
-
-pub zero-first : (a b : ℕ) → a ≡ 0 → b ≡ 0 → first a b ≡ 0
-zero-first zero b p q = q
-zero-first (suc a) b p q = omega arith
-
-pub first-hit : (a b n : ℕ) → first a b ≡ suc n → (a ≡ suc n) ⊎ (b ≡ suc n)
-first-hit zero b n e = inr e
-first-hit (suc a) b n e = inl e
-
-pub refuse-zero : (n : ℕ) (b : Bool) → refuse (suc n) b ≡ 0 → T b
-refuse-zero n true e = tt
-refuse-zero n false e = omega arith
-
-pub refuse-pass : (n : ℕ) (b : Bool) → T b → refuse n b ≡ 0
-refuse-pass n true t = refl
-refuse-pass n false t = absurd t
-
-pub refuse-hit : (k n : ℕ) (b : Bool) → refuse k b ≡ suc n → (k ≡ suc n) × T (not b)
-refuse-hit k n true e = omega arith
-refuse-hit k n false e = (e, tt)
+use Rattle.format.specs.Exam.{firstAt, firstOf}
+use Rattle.format.proofs.Answers.{first-zero, first-hit}
 
 pub firstAt-zero : (f : ℕ → ℕ) (bs : List ℕ) (left o : ℕ) → firstAt f bs left o ≡ 0 → (j : ℕ) → T (reach bs left j) → f (o + j) ≡ 0
 unfolding firstAt reach

@@ -3,7 +3,7 @@
 use Prim.Native.Nat.{ℕ, zero, suc}
 use native.Mathlib.Omega.{arith}
 use mathlib.Core.Path.{_≡_, refl}
-use Rattle.format.specs.Exam.{first}
+use Rattle.format.specs.Bytes.{first}
 
 pub first-none : (a b : ℕ) → a ≡ 0 → first a b ≡ b
 first-none zero b e = refl

@@ -8,12 +8,13 @@ use mathlib.Core.Bool.{Bool, true, false, _&&_, not}
 use mathlib.Core.List.{List}
 use lib.Dec.{T, ltb, leb}
 use lib.ListN.{length, getD, drop}
-use Rattle.format.specs.Bytes.{byte}
+use Rattle.format.specs.Bytes.{byte, refuse, first}
 use Rattle.format.specs.Insn.{known, prefix, size, opcode, rest, next}
 use Rattle.format.specs.Pattern.{Record, begins}
-use Rattle.format.specs.Exam.{readable, refuse, first, firstAt, at16, at1718, exam16, exam1718}
+use Rattle.format.specs.Exam.{readable, firstAt, at16, at1718, exam16, exam1718}
 use Rattle.runs.proofs.Jumps.{readable-whole}
-use Rattle.runs.proofs.Tests.{first-zero, refuse-zero, firstAt-zero}
+use Rattle.format.proofs.Answers.{first-zero, refuse-zero}
+use Rattle.runs.proofs.Tests.{firstAt-zero}
 use Rattle.flags.specs.Digits.{digitsOf}
 use Rattle.flags.specs.Flags.{bare, flagAt, judged, Flagged, landsFrom}
 use Rattle.flags.proofs.Numbers.{size-digit}

@@ -11,10 +11,10 @@ use lib.Dec.{ltb, leb}
 use lib.ListN.{length, getD, set, drop, length-set}
 use lib.Seq.{drop-cons, getD-set-same, getD-set-other}
 use borrow.Author.Tests.{ltb-true, ltb-false, lt-ltb, le-leb, lt-leb}
-use Rattle.format.specs.Bytes.{byte}
+use Rattle.format.specs.Bytes.{byte, refuse, first}
 use Rattle.format.specs.Insn.{known, prefix, opcode, rest, next}
 use Rattle.format.specs.Pattern.{reach, begins}
-use Rattle.format.specs.Exam.{readable, refuse, first, firstAt, at16, exam16}
+use Rattle.format.specs.Exam.{readable, firstAt, at16, exam16}
 use Rattle.runs.proofs.Loops.{firstAt-turn, firstAt-end, reach-turn, reach-over}
 use Rattle.flags.specs.Digits.{instruction, digitsOf}
 use Rattle.flags.specs.Flags.{bare, Looked, flagAt, toldAt}

@@ -9,10 +9,10 @@ use mathlib.Core.Bool.{true, false}
 use mathlib.Core.List.{List, _∷_}
 use lib.ListN.{length, getD, drop, drop-of-length-le}
 use lib.Seq.{drop-cons}
-use Rattle.format.specs.Bytes.{byte}
+use Rattle.format.specs.Bytes.{byte, first}
 use Rattle.format.specs.Insn.{width, kind, row, size, rest}
 use Rattle.format.specs.Pattern.{reach, begins}
-use Rattle.format.specs.Exam.{first, firstAt}
+use Rattle.format.specs.Exam.{firstAt}
 use Rattle.runs.proofs.Table.{width-small}
 
 pub record Place (c : List ℕ) (i left : ℕ) : Type 0 where

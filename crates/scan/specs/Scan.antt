@@ -4,7 +4,8 @@ use Prim.Native.Nat.{ℕ, _<_}
 use mathlib.Core.Path.{_≡_}
 use mathlib.Core.List.{List}
 use lib.ListN.{length, getD}
-use Rattle.format.specs.Exam.{first, exam16, exam1718}
+use Rattle.format.specs.Bytes.{first}
+use Rattle.format.specs.Exam.{exam16, exam1718}
 use Rattle.flags.specs.Flags.{bare, Marked, Flagged}
 
 -- the first n flags are 0

@@ -1,10 +1,10 @@
 -- `rite::load` meets its contract.
 -- Assumes nothing.
-use mathlib.Core.Path.{refl, ap, _∙_}
+use mathlib.Core.Path.{refl, sym, ap, _∙_}
 use native.Mathlib.Omega.{arith}
 use Rattle.format.specs.File.{nothing}
 use Rattle.format.specs.Load.{tablesOf, wordsOf}
-use Rattle.marks.proofs.Laws.{small-file}
+use Rattle.format.proofs.File.{accepted}
 use Rattle.file.specs.declared.Loaded.the-variants as loaded-is
 use Rattle.file.proofs.Laws.{file-read, file-refused}
 use Rattle.rite.specs.Answers.{words}
@@ -36,7 +36,7 @@ read-sections-requires c κs =
     let c10 = c9 .before in
     let c30 = c10 .before .before .before .before .before .before .before .before .before .before .before .before .before .before .before .before .before .before .before .before in
     let c49 = c30 .before .before .before .before .before .before .before .before .before .before .before .before .before .before .before .before .before .before .before in
-    small-file (c49 .args .f .now) (c10 .file-refusal .result) (c10 .file-refusal .ensures) (c9 .if1 .left)
+    accepted (c49 .args .f .now) (sym (c10 .file-refusal .ensures) ∙ c9 .if1 .left) .small
 
 same-length-10 : tie.Need-same-length-10
 same-length-10 c =

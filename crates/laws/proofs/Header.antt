@@ -1,0 +1,279 @@
+-- Files that are not pattern files: paper 02, g). When a load refuses by 27 and by 28; what a file that loads begins with; and that nothing else of
+-- the header counts.
+-- Assumes nothing.
+use Prim.Native.Nat.{ℕ, zero, suc, _+_, _-_, _/_, _≤_, _<_}
+use native.Mathlib.Nat.{add-zero}
+use native.Mathlib.Omega.{arith}
+use mathlib.Core.Path.{_≡_, refl, sym, ap, subst, _∙_}
+use mathlib.Core.Logic.{_↔_}
+use mathlib.Core.Bool.{Bool, true, false, not, cond, _&&_}
+use mathlib.Core.List.{List, [], _∷_}
+use lib.Dec.{T, leb, eqb, leb·zero, leb→le, le→leb, nleb→lt, eqb→eq, T-not, not-T}
+use lib.Ieee.Fits.{and-l, and-r}
+use lib.ListN.{length, getD, take, drop, length-drop}
+use lib.Seq.{getD-drop, drop-drop}
+use borrow.Author.Tests.{lt-leb, eqb-true, eqb-false, eq-eqb, ne-eqb}
+use Rattle.format.specs.Bytes.{Answer, ok, refused, onAnswer, refuse, first, has, fourAre}
+use Rattle.format.specs.Headers.{riteIdent}
+use Rattle.format.specs.Reading.{Part, part}
+use Rattle.format.specs.File.{Content, nothing, sectionAt, sections, identIsRite, statedSize, majorIs04, fileRefusal, fileReading}
+use Rattle.format.specs.Load.{Nine, tablesOf, used, fits, ending, loading, laid, load}
+use Rattle.format.specs.Exam.{FilePasses}
+use Rattle.format.proofs.Answers.{ok-refused, refused-same, Refuses, weaker, answered, tested}
+use Rattle.format.proofs.File.{Accepted, accepted}
+use Rattle.layout.proofs.Ends.{reading-accepted}
+use Rattle.layout.proofs.Inside.{loading-reading}
+use Rattle.laws.proofs.Numbers.{oneOf, Among, sectionNumbers, further}
+use Rattle.laws.proofs.Endings.{sections-end}
+
+-- "the first four bytes are .. ASCII RITE", as the bytes and as the test
+pub rite-iff : (f : List ℕ) → 4 ≤ length f → (take 4 f ≡ riteIdent) ↔ T (identIsRite f)
+rite-iff [] h = absurd (omega arith)
+rite-iff (a ∷ []) h = absurd (omega arith)
+rite-iff (a ∷ b ∷ []) h = absurd (omega arith)
+rite-iff (a ∷ b ∷ c ∷ []) h = absurd (omega arith)
+rite-iff (a ∷ b ∷ c ∷ d ∷ r) h = (λ e. subst (λ (l : List ℕ). T (fourAre l 0 riteIdent)) (sym e) tt, back)
+  where
+    back : T (identIsRite (a ∷ b ∷ c ∷ d ∷ r)) → a ∷ b ∷ c ∷ d ∷ [] ≡ riteIdent
+    back t =
+        let p = eqb a 82 in
+        let q = eqb b 73 in
+        let s = eqb c 84 in
+        let t3 = and-l (p && q && s) (eqb d 69) t in
+        let t2 = and-l (p && q) s t3 in
+        rw (eqb→eq a 82 (and-l p q t2), eqb→eq b 73 (and-r p q t2), eqb→eq c 84 (and-r (p && q) s t3), eqb→eq d 69 (and-r (p && q && s) (eqb d 69) t))
+
+-- a file's tests by their outcomes
+abbrev outcome : Bool → Bool → Bool → Bool → Bool → Bool → ℕ
+outcome a b c d g h = first (refuse 1 a) (first (refuse 2 b) (first (refuse 27 c) (first (refuse 28 d) (first (refuse 3 g) (refuse 4 h)))))
+
+by-27 : (a b c d g h : Bool) → outcome a b c d g h ≡ 27 → T a × T b × T (not c)
+by-27 false b c d g h e = absurd (omega arith)
+by-27 true false c d g h e = absurd (omega arith)
+by-27 true true false d g h e = (tt, tt, tt)
+by-27 true true true false g h e = absurd (omega arith)
+by-27 true true true true false h e = absurd (omega arith)
+by-27 true true true true true false e = absurd (omega arith)
+by-27 true true true true true true e = absurd (omega arith)
+
+by-28 : (a b c d g h : Bool) → outcome a b c d g h ≡ 28 → T a × T b × T c × T (not d)
+by-28 false b c d g h e = absurd (omega arith)
+by-28 true false c d g h e = absurd (omega arith)
+by-28 true true false d g h e = absurd (omega arith)
+by-28 true true true false g h e = (tt, tt, tt, tt)
+by-28 true true true true false h e = absurd (omega arith)
+by-28 true true true true true false e = absurd (omega arith)
+by-28 true true true true true true e = absurd (omega arith)
+
+by-neither : (a b c d g h : Bool) → let k = outcome a b c d g h in
+    ¬ (k ≡ 27) → ¬ (k ≡ 28) → k ≡ first (refuse 1 a) (first (refuse 2 b) (first (refuse 3 g) (refuse 4 h)))
+by-neither false b c d g h x y = refl
+by-neither true false c d g h x y = refl
+by-neither true true false d g h x y = absurd (x refl)
+by-neither true true true false g h x y = absurd (y refl)
+by-neither true true true true g h x y = refl
+
+-- a test that passes, and one that does not
+passed : (b : Bool) → T b → b ≡ true
+passed true t = refl
+passed false t = absurd t
+
+failed : (b : Bool) → T (not b) → b ≡ false
+failed true t = absurd t
+failed false t = refl
+
+module _ (f : List ℕ) where
+  abbrev n : ℕ
+  n = length f
+
+  -- what meets 27, and what meets 28
+  pub record OtherIdent : Type 0 where
+    pub small : n ≤ 65536
+    pub headed : 20 ≤ n
+    pub other : ¬ (take 4 f ≡ riteIdent)
+
+  pub record SizeBeyond : Type 0 where
+    pub small : n ≤ 65536
+    pub headed : 20 ≤ n
+    pub rite : take 4 f ≡ riteIdent
+    pub beyond : n < statedSize f
+
+  tests-27 : fileRefusal f ≡ 27 ↔ OtherIdent
+  unfolding fileRefusal
+  tests-27 = (there, back)
+    where
+      there : fileRefusal f ≡ 27 → OtherIdent
+      there e =
+          let x = by-27 (leb n 65536) (leb 20 n) (identIsRite f) (leb (statedSize f) n) (majorIs04 f) (leb 32 n) e in
+          let h = leb→le 20 n (x .1) in
+          record {
+            small = leb→le n 65536 (x .0);
+            headed = h;
+            other = λ q. T-not (identIsRite f) (x .2) (rite-iff f (omega arith) .0 q);
+          }
+
+      back : OtherIdent → fileRefusal f ≡ 27
+      back x =
+          let h = x .headed in
+          let i = failed (identIsRite f) (not-T (identIsRite f) (λ t. x .other (rite-iff f (omega arith) .1 t))) in
+          rw (passed (leb n 65536) (le→leb n 65536 (x .small)), passed (leb 20 n) (le→leb 20 n h), i)
+
+  tests-28 : fileRefusal f ≡ 28 ↔ SizeBeyond
+  unfolding fileRefusal
+  tests-28 = (there, back)
+    where
+      there : fileRefusal f ≡ 28 → SizeBeyond
+      there e =
+          let x = by-28 (leb n 65536) (leb 20 n) (identIsRite f) (leb (statedSize f) n) (majorIs04 f) (leb 32 n) e in
+          let h = leb→le 20 n (x .1) in
+          record {
+            small = leb→le n 65536 (x .0);
+            headed = h;
+            rite = rite-iff f (omega arith) .1 (x .2);
+            beyond = nleb→lt (statedSize f) n (x .3);
+          }
+
+      back : SizeBeyond → fileRefusal f ≡ 28
+      back x =
+          let h = x .headed in
+          rw (
+            passed (leb n 65536) (le→leb n 65536 (x .small)),
+            passed (leb 20 n) (le→leb 20 n h),
+            passed (identIsRite f) (rite-iff f (omega arith) .0 (x .rite)),
+            lt-leb (statedSize f) n (x .beyond),
+          )
+
+  -- a file that meets neither is tested as paper 01 tests it: "Equality with the Rust leaves out 27 and 28."
+  pub tests-else : ¬ (fileRefusal f ≡ 27) → ¬ (fileRefusal f ≡ 28)
+      → fileRefusal f ≡ first (refuse 1 (leb n 65536)) (first (refuse 2 (leb 20 n)) (first (refuse 3 (majorIs04 f)) (refuse 4 (leb 32 n))))
+  unfolding fileRefusal
+  tests-else = by-neither (leb n 65536) (leb 20 n) (identIsRite f) (leb (statedSize f) n) (majorIs04 f) (leb 32 n)
+
+  module _ (m : Nine) where
+    -- nothing that was read needs no row
+    fits-nothing : fits 1024 m (used (tablesOf nothing)) ≡ true
+    unfolding fits
+    fits-nothing =
+        rw (
+          leb·zero (m .records / 19),
+          leb·zero (m .handlers / 4),
+          leb·zero (m .pool / 3),
+          leb·zero (m .symbols / 2),
+          leb·zero (m .strings / 2),
+          leb·zero (m .names),
+          leb·zero (m .fileNames / 2),
+          leb·zero (m .files / 4),
+          leb·zero (m .lines / 2),
+        )
+
+    -- a file that its tests refuse is refused so, whatever is lent
+    tested-load : (k : ℕ) → fileRefusal f ≡ suc k → load f m .answer ≡ refused (suc k)
+    unfolding load loading ending fileReading
+    tested-load k e = rw (e, ne-eqb (suc k) 0 (λ (z : suc k ≡ 0). omega arith), fits-nothing)
+
+    -- behind the tests a load is refused by 14 or by a number of sections
+    sections-refuse : fileRefusal f ≡ 0 → Refuses (Among (14 ∷ sectionNumbers)) (loading f m)
+    unfolding loading ending fileReading
+    sections-refuse z =
+        let p = sections f n nothing 20 in
+        let ns : List ℕ = 14 ∷ sectionNumbers in
+        rw z
+        (tested _ _ (fits 1024 m (used (tablesOf (p .it)))) _ 14 tt
+        (λ _. answered _ _ (Refuses (Among ns)) (p .end) _ _ (sections-end f n nothing 20 (omega arith)) (λ _ _. tt) (further sectionNumbers ns tt)))
+
+    -- so a load's other numbers are the tests'
+    load-tested : (e : ℕ) → T (not (oneOf (14 ∷ sectionNumbers) e)) → load f m .answer ≡ refused e → fileRefusal f ≡ e
+    unfolding load
+    load-tested e t q = by-tests (fileRefusal f) refl
+      where
+        laid-refuses : (R : ℕ → Type 0) (a : Answer Content) → Refuses R a → Refuses R (laid m a .answer)
+        laid-refuses R (ok c) r = tt
+        laid-refuses R (refused k) r = r
+
+        by-tests : (k : ℕ) → fileRefusal f ≡ k → fileRefusal f ≡ e
+        by-tests zero z =
+            let R : ℕ → Type 0 = Among (14 ∷ sectionNumbers) in
+            absurd (T-not (oneOf (14 ∷ sectionNumbers) e) t (subst (Refuses R) q (laid-refuses R (loading f m) (sections-refuse z))))
+        by-tests (suc k) z = z ∙ refused-same (sym (tested-load k z) ∙ q)
+
+    -- "27 when the first four bytes are not ASCII RITE, after 2."
+    pub load-27 : load f m .answer ≡ refused 27 ↔ OtherIdent
+    load-27 = (λ q. tests-27 .0 (load-tested 27 tt q), λ x. tested-load 26 (tests-27 .1 x))
+
+    -- "28 when the header's size exceeds the file's length, after 27."
+    pub load-28 : load f m .answer ≡ refused 28 ↔ SizeBeyond
+    load-28 = (λ q. tests-28 .0 (load-tested 28 tt q), λ x. tested-load 27 (tests-28 .1 x))
+
+    -- a file that loads begins with RITE and states no more bytes than it has
+    pub loaded-rite : (c : Content) → loading f m ≡ ok c → (take 4 f ≡ riteIdent) × (statedSize f ≤ n)
+    loaded-rite c e =
+        let r = loading-reading f m c e in
+        let a = reading-accepted f (r .1 .0) (r .1 .1) in
+        let l = a .long in
+        (rite-iff f (omega arith) .1 (a .rite), a .sized)
+
+  -- so does one that passes
+  pub passes-rite : FilePasses f → (take 4 f ≡ riteIdent) × (statedSize f ≤ n)
+  passes-rite x = loaded-rite (x .tables) (x .content) (x .loads)
+
+-- Of two files that their tests accept, with the same bytes behind their headers, one loads as the other does.
+module _ (f g : List ℕ) (same : drop 20 f ≡ drop 20 g) where
+  from-20 : (at : ℕ) → 20 ≤ at → drop at f ≡ drop at g
+  from-20 at h =
+      let k : 20 + (at - 20) ≡ at = omega arith in
+      let part : (l : List ℕ) → drop (at - 20) (drop 20 l) ≡ drop at l = λ l. drop-drop (at - 20) 20 l ∙ ap (λ (i : ℕ). drop i l) k in
+      sym (part f) ∙ ap (drop (at - 20)) same ∙ part g
+
+  byte-same : (at : ℕ) → 20 ≤ at → getD f at 0 ≡ getD g at 0
+  byte-same at h =
+      let first-of : (l : List ℕ) → getD (drop at l) 0 0 ≡ getD l at 0 = λ l. getD-drop at l 0 0 ∙ ap (λ (i : ℕ). getD l i 0) (add-zero at) in
+      sym (first-of f) ∙ ap (λ (l : List ℕ). getD l 0 0) (from-20 at h) ∙ first-of g
+
+  section-same : (c : Content) (at : ℕ) → 20 ≤ at → sectionAt f c at ≡ sectionAt g c at
+  unfolding sectionAt
+  section-same c at h =
+      rw (
+        byte-same at h,
+        byte-same (at + 1) (omega arith),
+        byte-same (at + 2) (omega arith),
+        byte-same (at + 3) (omega arith),
+        from-20 at h,
+      )
+
+  module _ (long : 20 ≤ length f) (long′ : 20 ≤ length g) where
+    length-same : length f ≡ length g
+    length-same =
+        let e : length f - 20 ≡ length g - 20 = sym (length-drop 20 f) ∙ ap length same ∙ length-drop 20 g in
+        omega arith
+
+    sections-same : (k : ℕ) (c : Content) (at : ℕ) → 20 ≤ at → sections f k c at ≡ sections g k c at
+    unfolding sections
+    sections-same zero c at h = refl
+    sections-same (suc k) c at h =
+        rw (length-same, section-same c at h)
+        (by-there (has g at 4) (sectionAt g c at) (λ size. sections-same k (sectionAt g c at .it) (at + size) (omega arith)))
+      where
+        by-there : (b : Bool) (s : Part Content) → ((size : ℕ) → sections f k (s .it) (at + size) ≡ sections g k (s .it) (at + size))
+            → cond b (onAnswer (s .end) (λ size. sections f k (s .it) (at + size)) (λ e. part (s .it) (refused e))) (part c (ok at))
+            ≡ cond b (onAnswer (s .end) (λ size. sections g k (s .it) (at + size)) (λ e. part (s .it) (refused e))) (part c (ok at))
+        by-there false s ih = refl
+        by-there true s ih = by-end (s .end)
+          where
+            by-end : (a : Answer ℕ)
+                → onAnswer a (λ size. sections f k (s .it) (at + size)) (λ e. part (s .it) (refused e))
+                ≡ onAnswer a (λ size. sections g k (s .it) (at + size)) (λ e. part (s .it) (refused e))
+            by-end (ok size) = ih size
+            by-end (refused e) = refl
+
+  reading-same : fileRefusal f ≡ 0 → fileRefusal g ≡ 0 → fileReading f ≡ fileReading g
+  unfolding fileReading
+  reading-same z z′ =
+      let l = accepted f z .long in
+      let l′ = accepted g z′ .long in
+      let long : 20 ≤ length f = omega arith in
+      let long′ : 20 ≤ length g = omega arith in
+      rw (z, z′, sections-same long long′ (length f) nothing 20 (omega arith), length-same long long′)
+
+  pub load-same : fileRefusal f ≡ 0 → fileRefusal g ≡ 0 → (m : Nine) → load f m ≡ load g m
+  unfolding load loading
+  load-same z z′ m = rw (reading-same z z′)
