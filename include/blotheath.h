@@ -42,8 +42,10 @@
    22  a lookup's record or index has no row, its row points outside the file or its table, or a constant's kind or length is unknown
    23  fetch: the opcode is above 118
    24  fetch: too few bytes
-   A load refuses by 1 to 14, an examination by 1 to 20, follow by 1 to 21, lookups by 22, fetch by 23 and 24. 1 to 4 are tested in this order; 5
-   to 14 are met where reading forward meets them; the others stand with their calls. */
+   27  the file is no compiled pattern: its first four bytes are not RITE
+   28  the file is cut short: it has fewer bytes than its header states
+   A load refuses by 1 to 14, 27 and 28, an examination by 1 to 20, 27 and 28, follow by 1 to 21, 27 and 28, lookups by 22, fetch by 23 and 24. 1,
+   2, 27, 28, 3 and 4 are tested in this order; 5 to 14 are met where reading forward meets them; the others stand with their calls. */
 #ifndef BLOTHEATH_H
 #define BLOTHEATH_H
 
@@ -161,8 +163,8 @@ BlotheathLoaded blotheath_examine(const uint8_t *file, size_t file_len,
                                   uint32_t *files, size_t files_len,
                                   uint32_t *lines, size_t lines_len);
 
-/* Where a run stands. refusal: 0, or a number of 1 to 21. finished: 1 where the run is finished, and then all else is 0. Else the top frame's
-   record and offset, its line where found is 1, and the number of frames. */
+/* Where a run stands. refusal: 0, or one of 1 to 21, 27 and 28. finished: 1 where the run is finished, and then all else is 0. Else the top
+   frame's record and offset, its line where found is 1, and the number of frames. */
 typedef struct {
     uint32_t refusal;
     uint32_t finished;

@@ -1,5 +1,7 @@
 //! The worst files of at most 65,536 bytes.
 
+use crate::parts::{file, section};
+
 const RECORDS: usize = 1_024;
 
 /// A size past every file's end, which ends the records; its bytes are LOADNIL and two NOPs.
@@ -45,15 +47,6 @@ pub fn files() -> Vec<(&'static str, Vec<u8>)> {
             children(),
         ),
     ]
-}
-
-fn file(sections: &[Vec<u8>]) -> Vec<u8> {
-    [b"RITE0400".to_vec(), vec![0; 12], sections.concat()].concat()
-}
-
-fn section(mark: &[u8; 4], content: &[u8]) -> Vec<u8> {
-    let size = 8 + content.len() as u32;
-    [&mark[..], &size.to_be_bytes(), content].concat()
 }
 
 fn irep(content: &[u8]) -> Vec<u8> {

@@ -1,5 +1,7 @@
 //! Patterns of any size that pass: a record with children that are alike.
 
+use crate::parts::{file, section};
+
 /// The code of a child: calls, constants, a loop and a return.
 const CODE: [u8; 43] = [
     57, 4, 0, 0, // ENTER
@@ -65,11 +67,6 @@ fn first(children: usize) -> Vec<u8> {
     .concat()
 }
 
-fn section(mark: &[u8; 4], content: &[u8]) -> Vec<u8> {
-    let size = 8 + content.len() as u32;
-    [&mark[..], &size.to_be_bytes(), content].concat()
-}
-
 fn names(children: usize) -> Vec<u8> {
     let mut content = vec![0, 0, 0, 2];
     content.extend(text(b"stakes"));
@@ -104,15 +101,12 @@ fn of_children(children: usize) -> Vec<u8> {
     let mut records = vec![0; 4];
     records.extend(first(children));
     (0..children).for_each(|number| records.extend(child(number)));
-    let mut file = b"RITE0400".to_vec();
-    file.extend([0; 12]);
-    file.extend(section(b"IREP", &records));
-    file.extend(lines(children));
-    file.extend(names(children));
-    file.extend(section(b"END\0", &[]));
-    let size = (file.len() as u32).to_be_bytes();
-    file[8..12].copy_from_slice(&size);
-    file
+    file(&[
+        section(b"IREP", &records),
+        lines(children),
+        names(children),
+        section(b"END\0", &[]),
+    ])
 }
 
 /// The largest pattern of at most so many bytes.

@@ -6,6 +6,7 @@
 
 mod hostile;
 mod ladder;
+mod parts;
 mod timing;
 
 use blotheath::tables::Words;

@@ -28,7 +28,7 @@ pub const PROVED: bool = known(env!("BLOTHEATH_PROVED")).is_some();
 /// Why the answers are not those of the archive that was proved.
 pub const DOUBT: Option<&str> = match (PROVED, cfg!(feature = "model")) {
     (true, _) => None,
-    (false, true) => Some("it asks the plain model of paper 01 instead of the proved archive"),
+    (false, true) => Some("it asks a plain model of the format instead of the proved archive"),
     (false, false) => Some("its archive libblotheath.a is not known to be the one that was proved"),
 };
 

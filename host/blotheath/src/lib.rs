@@ -11,6 +11,7 @@ pub mod ffi;
 #[path = "by_model.rs"]
 pub mod ffi;
 mod follow;
+mod hint;
 mod identity;
 mod locate;
 mod opcode;
@@ -22,6 +23,7 @@ pub mod tables;
 mod tree;
 
 pub use follow::{Choice, Frame, Standing, bytes_of, follow};
+pub use hint::looks_like;
 pub use identity::{DOUBT, IDENTITY, Identity, PROVED};
 pub use locate::{Place, locate};
 pub use opcode::{Flow, Role, flow, name as opcode_name, roles};
@@ -36,6 +38,9 @@ pub use tree::{Node, Tree};
 
 /// The longest file, in bytes.
 pub const FILE_LIMIT: usize = 65_536;
+
+/// The bytes that a pattern file begins with.
+const IDENT: &[u8] = b"RITE";
 
 /// The stack, in bytes, that a load needs at most.
 pub const LOAD_STACK: usize = 448 << 10;

@@ -26,12 +26,15 @@ static const uint8_t file[64] = {
 int main(void) {
     uint32_t records[19], frames[2];
     BlotheathRecord row[1];
+    uint8_t other[sizeof file] = {0};
 
     hold(blotheath_load(NONE, NO_TABLES).refusal == 2, "a file without bytes is refused by 2");
     hold(blotheath_load(LENT(file), NO_TABLES).refusal == 14, "without tables a record's row has no place");
     hold(blotheath_load_records(NONE, NO_TABLES, NONE).refusal == 2, "no rows are filled");
     hold(blotheath_examine(NONE, NO_TABLES).refusal == 2, "the same examined");
     hold(blotheath_follow(NONE, NO_TABLES, NONE, NONE).refusal == 2, "the same followed");
+    hold(blotheath_load(LENT(other), NO_TABLES).refusal == 27, "a file that does not begin with RITE");
+    hold(blotheath_load(file, sizeof file - 1, NO_TABLES).refusal == 28, "a file that is cut short");
 
     BlotheathLoaded loaded =
         blotheath_load_records(LENT(file), LENT(records), NONE, NONE, NONE, NONE, NONE, NONE, NONE, NONE, LENT(row));

@@ -4,6 +4,7 @@ mod common;
 
 use blotheath::*;
 use common::{Numbers, build, damaged, files, sample_bytes};
+use std::collections::BTreeSet;
 use std::fs;
 
 #[test]
@@ -131,14 +132,14 @@ fn refusals_have_places() {
 #[test]
 fn the_search_agrees_with_the_verdict() {
     let mut numbers = Numbers(1);
-    let mut found = [0; 25];
+    let mut found = BTreeSet::new();
     let files: Vec<Vec<u8>> = files().iter().map(|path| fs::read(path).unwrap()).collect();
     for round in 0..6_000 {
         let file = damaged(&files[round % files.len()], &mut numbers);
         let Err(refusal) = examine(&file) else {
             continue;
         };
-        found[refusal.number() as usize] += 1;
+        found.insert(refusal.number());
         match load(&file) {
             Ok(pattern) => {
                 assert!(refusal.is_of_examination(), "{refusal}");
@@ -146,18 +147,14 @@ fn the_search_agrees_with_the_verdict() {
                     locate(&file, Some(&pattern), refusal).is_some(),
                     "{refusal} {file:?}"
                 );
-                let others = (15..=20).map(Refusal).filter(|other| *other != refusal);
-                assert!(
-                    others
-                        .into_iter()
-                        .all(|o| locate(&file, Some(&pattern), o).is_none())
-                );
+                let mut others = Refusal::all().filter(|other| *other != refusal);
+                assert!(others.all(|other| locate(&file, Some(&pattern), other).is_none()));
             }
             Err(other) => assert_eq!(refusal, other),
         }
     }
     for number in [7, 16, 17, 18] {
-        assert!(found[number] > 0, "no file meets {number}");
+        assert!(found.contains(&number), "no file meets {number}");
     }
 }
 
@@ -175,6 +172,34 @@ fn one_register_too_many_in_the_last_of_many_records() {
 
 #[test]
 fn files_longer_than_the_limit() {
-    assert_eq!(load(&[0; 65_537]).unwrap_err(), Refusal(1));
-    assert_eq!(examine(&[0; 70_000]).unwrap_err(), Refusal(1));
+    for length in [FILE_LIMIT + 1, 70_000] {
+        let file = build::resized(&sample_bytes(), length);
+        assert_eq!(load(&file).unwrap_err(), Refusal(1));
+        assert_eq!(examine(&file).unwrap_err(), Refusal(1));
+    }
+}
+
+/// A file that breaks every rule of its length and its header; each is mended in turn.
+#[test]
+fn the_order_of_the_first_refusals() {
+    let mut file = vec![255; FILE_LIMIT + 1];
+    let meets = |file: &[u8], number| {
+        assert_eq!(load(file).unwrap_err(), Refusal(number));
+        assert_eq!(examine(file).unwrap_err(), Refusal(number));
+        assert_eq!(follow(file, &[]), Err(Refusal(number)));
+    };
+    meets(&file, 1);
+    meets(&file[..19], 2);
+    file.truncate(31);
+    meets(&file, 27);
+    file[..4].copy_from_slice(b"RITE");
+    meets(&file, 28);
+    file[build::SIZE].copy_from_slice(&32u32.to_be_bytes());
+    meets(&file, 28);
+    build::state_length(&mut file);
+    meets(&file, 3);
+    file[4..6].copy_from_slice(b"04");
+    meets(&file, 4);
+    file.push(255);
+    meets(&file, 5);
 }

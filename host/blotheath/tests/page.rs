@@ -2,6 +2,7 @@
 
 mod common;
 
+use blotheath::Refusal;
 use common::{Folder, Numbers, build, damaged, files, run, sample, sample_bytes};
 use std::collections::BTreeSet;
 use std::fs;
@@ -81,7 +82,7 @@ fn refused() -> Vec<(u32, Vec<u8>)> {
         (2, Vec::new()),
         (3, sample_with(5, b'3')),
         (5, sample_with(22, b'Q')),
-        (7, sample_bytes()[..700].to_vec()),
+        (7, build::resized(&sample_bytes(), 700)),
         (15, build::file(&[build::irep(&two.concat())])),
         (16, sample_with(683 + 56, 200)),
         (16, build::one(&[], &[], &[])),
@@ -89,6 +90,8 @@ fn refused() -> Vec<(u32, Vec<u8>)> {
         (18, sample_with(595 + 33, 1)),
         (19, with_handlers(&[0, 77])),
         (20, with_lines(b"a.rb", &[(2, 1), (0, 2)])),
+        (27, build::drawing(700)),
+        (28, sample_bytes()[..700].to_vec()),
     ]
 }
 
@@ -143,7 +146,8 @@ fn the_bad_step_is_marked_and_linked() {
     for (number, bytes) in refused() {
         let page = page(&folder, "bad.mrb", &bytes);
         let links = values(&page, "href=\"#bad").len();
-        assert_eq!(links, usize::from(number > 15), "{number}");
+        let is_of_a_record = Refusal(number).is_of_examination() && number != 15;
+        assert_eq!(links, usize::from(is_of_a_record), "{number}");
         assert_eq!(page.matches(" id=\"bad\"").count(), links, "{number}");
     }
     let marked = |bytes: &[u8]| {
@@ -166,11 +170,12 @@ fn the_bad_step_is_marked_and_linked() {
     assert!(handler.starts_with("Handler 1, ") && handler.contains("Refused by 19"));
 }
 
-/// A refusal by 1 to 14 has a place too, with the bytes around it.
+/// A refusal of loading has a place too, with the bytes around it.
 #[test]
 fn a_refusal_of_loading_shows_its_bytes() {
     let folder = Folder::new("bytes");
-    for (number, bytes) in refused().into_iter().filter(|(number, _)| *number <= 14) {
+    let refused = refused().into_iter();
+    for (number, bytes) in refused.filter(|(number, _)| Refusal(*number).is_of_loading()) {
         let page = page(&folder, "bad.mrb", &bytes);
         let shown = between(&page, "<figure class=\"bytes\">", "</figure>");
         assert!(shown.contains("<mark>"), "{number}");
@@ -288,9 +293,51 @@ fn the_checklist_tells_how_far_examination_went() {
             &up_to(3)
         ]
     );
-    let unloaded = states(&sample_with(22, b'Q'));
-    assert_eq!(unloaded[0], "does not hold");
-    assert_eq!(unloaded[1..], ["not looked at"; 6]);
+    for bytes in [
+        sample_with(22, b'Q'),
+        build::drawing(700),
+        sample_bytes()[..700].to_vec(),
+    ] {
+        let unloaded = states(&bytes);
+        assert_eq!(unloaded[0], "does not hold");
+        assert_eq!(unloaded[1..], ["not looked at"; 6]);
+    }
+}
+
+/// The page of a drawing: its refusal, what it looks like, its first bytes, and nothing of a pattern.
+#[test]
+fn a_drawing_is_told_as_one() {
+    let folder = Folder::new("drawing");
+    let page = page(&folder, "oval.png", &build::drawing(700));
+    let verdict = "<strong>Refused by 27</strong> <span>The file is not a compiled pattern: it does not begin with RITE.</span>";
+    assert!(page.contains(verdict), "{page}");
+    let place =
+        "Header, byte 0: the file begins with &quot;\\x89PNG&quot;; it looks like a PNG picture.";
+    assert!(
+        page.contains(&format!("<p class=\"place\">{place}</p>")),
+        "{page}"
+    );
+    assert!(page.contains("<mark>89</mark> 50 4e 47 "));
+    assert!(page.contains("Byte 0, 89, is marked"));
+    assert!(page.contains("<td class=\"number\">1 to 14, 27, 28</td>"));
+    assert!(!page.contains("<h2>Steps</h2>") && !page.contains("href=\"#"));
+    let style = between(&page, "<style>", "</style>");
+    assert!(style.contains("@top-right { content: \"refused\\20 by\\20 27\"; }"));
+}
+
+/// What a text begins with is shown and steers no page.
+#[test]
+fn a_text_that_is_no_pattern_is_shown_safely() {
+    let folder = Folder::new("markup");
+    let page = page(
+        &folder,
+        "a.svg",
+        b"<svg onload=\"alert(1)\"><script>alert(2)</script></svg>",
+    );
+    assert!(
+        page.contains("the file begins with &quot;&lt;svg&quot;; it looks like an SVG drawing.")
+    );
+    assert!(!page.contains("<svg") && !page.contains("<script"));
 }
 
 #[test]
@@ -317,7 +364,7 @@ fn the_foot_says_what_the_page_was_made_from() {
         "{date}"
     );
     let folder = Folder::new("foot");
-    let long = folder.file("long.mrb", &[7; 65_537]);
+    let long = folder.file("long.mrb", &build::resized(&sample_bytes(), 65_537));
     let page = run(&["report", &long]).out;
     assert!(page.contains("<dd>long.mrb, longer than what is read, so without a digest</dd>"));
 }

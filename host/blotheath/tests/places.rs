@@ -1,10 +1,11 @@
-//! Places of refusals by 1 to 14: the section, the byte and a few words.
+//! Places of refusals of loading: the section, the byte and a few words.
 
 mod common;
 
 use blotheath::{FILE_LIMIT, Place, Refusal, examine, load, locate};
 use common::json::{Value, parse};
 use common::{Folder, Numbers, build, damaged, files, run, run_with, sample_bytes, steers};
+use std::collections::BTreeSet;
 use std::fs;
 
 /// The refusal of a file and its place.
@@ -108,38 +109,89 @@ fn the_rich_file_loads() {
 
 #[test]
 fn headers() {
-    let long = vec![0; FILE_LIMIT + 1];
+    let long = build::resized(&rich(), FILE_LIMIT + 1);
+    let what = "the file goes on behind its 65,536th byte";
+    check(&long, (1, None, 65_536, None, what));
+    let what = "the file ends here, after 19 bytes";
+    check(&rich()[..19], (2, Some("header"), 19, None, what));
+    let what = "the file ends here, after 31 bytes";
+    check(&build::resized(&rich(), 31), (4, None, 31, None, what));
+}
+
+#[test]
+fn the_version_that_was_found() {
+    let version = |version: &[u8; 4], what: &'static str| {
+        let mut file = rich();
+        file[4..8].copy_from_slice(version);
+        check(&file, (3, Some("header"), 4, None, what));
+    };
+    version(b"0300", "the version is 0300, mruby 3.x");
+    version(b"0006", "the version is 0006");
+    version(b"03\n\0", r#"the version is "03\n\x00", mruby 3.x"#);
+}
+
+/// The first byte that is none of RITE, and what the file looks like.
+#[test]
+fn the_ident_that_was_found() {
+    let begins = |start: &[u8], byte, what: &'static str| {
+        let mut file = rich();
+        file[..start.len()].copy_from_slice(start);
+        check(&file, (27, Some("header"), byte, None, what));
+    };
+    begins(b"\0", 0, r#"the file begins with "\x00ITE""#);
+    begins(b"RITe", 3, r#"the file begins with "RITe""#);
+    begins(b"R\"\x1b", 1, r#"the file begins with "R\"\x1bE""#);
+    begins(
+        b"\x89PNG\r\n\x1a\n",
+        0,
+        r#"the file begins with "\x89PNG"; it looks like a PNG picture"#,
+    );
+    begins(
+        b"ETIR0006",
+        0,
+        "the file begins with \"ETIR\"; it looks like a pattern of an older mruby, low byte first, which has to be compiled anew",
+    );
+}
+
+#[test]
+fn a_size_beyond_the_file() {
+    let length = rich().len() as u32;
+    let stating = |size: u32| {
+        let mut file = rich();
+        file[build::SIZE].copy_from_slice(&size.to_be_bytes());
+        file
+    };
+    for size in [length + 1, u32::MAX] {
+        let what = format!("the header states {size} bytes, and the file has {length}");
+        check(&stating(size), (28, Some("header"), 8, None, what.leak()));
+    }
+    for size in [0, 1, length - 1, length] {
+        assert!(load(&stating(size)).is_ok(), "{size}");
+    }
+}
+
+/// What a file looks like is also told where its length is refused first.
+#[test]
+fn other_files_by_their_length() {
     check(
-        &long,
+        &build::drawing(FILE_LIMIT + 1),
         (
             1,
             None,
             65_536,
             None,
-            "the file goes on behind its 65,536th byte",
+            "the file goes on behind its 65,536th byte; it looks like a PNG picture",
         ),
     );
-    let ends = "the file ends here, after 19 bytes";
-    check(&rich()[..19], (2, Some("header"), 19, None, ends));
     check(
-        &rich()[..31],
-        (4, None, 31, None, "the file ends here, after 31 bytes"),
-    );
-}
-
-#[test]
-fn the_version_that_was_found() {
-    let version = |start: &[u8; 8], what: &'static str| {
-        let mut file = rich();
-        file[..8].copy_from_slice(start);
-        check(&file, (3, Some("header"), 4, None, what));
-    };
-    version(b"RITE0300", "the version is 0300, mruby 3.x");
-    version(b"RITE0006", "the version is 0006");
-    version(b"RITE03\n\0", r#"the version is "03\n\x00", mruby 3.x"#);
-    version(
-        b"\x89PNG\r\n\x1a\n",
-        r#"the version is "\r\n\x1a\n", and the file begins with "\x89PNG" instead of RITE"#,
+        b"puts 1\n",
+        (
+            2,
+            Some("header"),
+            7,
+            None,
+            "the file ends here, after 7 bytes; it looks like plain text, perhaps the Ruby source, which has to be compiled first",
+        ),
     );
 }
 
@@ -317,9 +369,31 @@ fn bytes_of_examined_records() {
     assert_eq!(place.byte, Some(target as u32));
 }
 
+/// The header of a file with another ident, another version or another size.
+fn change_header(file: &mut [u8], numbers: &mut Numbers) {
+    let length = file.len() as u32;
+    let (place, field) = match numbers.below(3) {
+        0 => (
+            0,
+            *[b"RITF", b"ETIR", b"\x89PNG", b"puts"][numbers.below(4)],
+        ),
+        1 => (4, *[b"0300", b"0499", b"0500", b"4040"][numbers.below(4)]),
+        _ => {
+            let sizes = [0, length, length.wrapping_add(1), u32::MAX];
+            (build::SIZE.start, sizes[numbers.below(4)].to_be_bytes())
+        }
+    };
+    if let Some(bytes) = file.get_mut(place..place + 4) {
+        bytes.copy_from_slice(&field);
+    }
+}
+
 /// A damaged file with some fields set to numbers at which answers change.
 fn changed(file: &[u8], numbers: &mut Numbers) -> Vec<u8> {
     let mut bytes = damaged(file, numbers);
+    if numbers.below(8) == 0 {
+        change_header(&mut bytes, numbers);
+    }
     for _ in 0..numbers.below(3) {
         let width = [1, 2, 4][numbers.below(3)];
         if bytes.len() > 20 + width {
@@ -342,7 +416,7 @@ fn shuffled(numbers: &mut Numbers) -> Vec<u8> {
     build::file(&chosen)
 }
 
-/// Every refusal by 1 to 14 has a place in the file or at its end, and none by another number has one there.
+/// Every refusal of loading has a place in the file or at its end, and none by another number has one there.
 #[test]
 fn every_file_that_does_not_load_has_a_place() {
     let mut numbers = Numbers(13);
@@ -352,8 +426,8 @@ fn every_file_that_does_not_load_has_a_place() {
     stock.push(build::file(&[build::irep(
         &build::record(0, &[118], &[], &[]).repeat(1_025),
     )]));
-    stock.push(vec![0; FILE_LIMIT + 1]);
-    let mut found = [0; 25];
+    stock.push(build::resized(&rich(), FILE_LIMIT + 1));
+    let mut found = BTreeSet::new();
     for round in 0..24_000 {
         let file = match round % 4 {
             0 => changed(&stock[numbers.below(stock.len())], &mut numbers),
@@ -367,16 +441,16 @@ fn every_file_that_does_not_load_has_a_place() {
             continue;
         };
         assert_eq!(model, Err(refusal.number()));
-        found[refusal.number() as usize] += 1;
+        found.insert(refusal);
         let place = locate(&file, None, refusal);
         let place = place.unwrap_or_else(|| panic!("{refusal} has no place in {file:?}"));
         assert!(place.byte.unwrap() as usize <= file.len(), "{place:?}");
         assert!(!steers(&place.what), "{place:?}");
-        let others = (1..=24).map(Refusal).filter(|other| *other != refusal);
-        assert!(others.into_iter().all(|o| locate(&file, None, o).is_none()));
+        let mut others = Refusal::all().filter(|other| *other != refusal);
+        assert!(others.all(|other| locate(&file, None, other).is_none()));
     }
-    for (number, found) in found.iter().enumerate().take(15).skip(1) {
-        assert!(*found > 0, "no file meets {number}");
+    for refusal in Refusal::all().filter(|one| one.is_of_loading()) {
+        assert!(found.contains(&refusal), "no file is {refusal}");
     }
 }
 

@@ -7,11 +7,11 @@ use super::meaning::{Meaning, Reader};
 use super::source::Source;
 use super::style::Style;
 use super::text::{self, counted};
-use super::verdict::judge;
+use super::verdict::{judge, refusal_members};
 use super::{Status, complain, input, unusable};
 use blotheath::{
     Before, Choice, Flow, Frame, Pattern, Refusal, Role, Run, Standing, Step, Tree, flow,
-    opcode_name, roles,
+    looks_like, opcode_name, roles,
 };
 use std::io::{self, BufRead, IsTerminal, Write};
 use std::path::Path;
@@ -404,7 +404,7 @@ fn write_json(
         json.key("choices")?.number(choices.number() as i64)?;
         status = match &answer {
             Ok(answer) => write_run(json, file, source, choices, each, answer)?,
-            Err(refusal) => write_refusal(json, choices, *refusal)?,
+            Err(refusal) => write_refusal(json, file, choices, *refusal)?,
         };
         Ok(())
     })?;
@@ -413,13 +413,17 @@ fn write_json(
 }
 
 /// The standings of a list that there is no run along.
-fn write_refusal(json: &mut Json, choices: &Choices, refusal: Refusal) -> io::Result<Status> {
+fn write_refusal(
+    json: &mut Json,
+    file: &[u8],
+    choices: &Choices,
+    refusal: Refusal,
+) -> io::Result<Status> {
     json.key("standings")?.array(|json| {
         json.line()?;
         json.object(|json| {
             json.key("choices")?.number(choices.number() as i64)?;
-            json.key("refusal")?.number(refusal.number())?;
-            json.key("sentence")?.string(refusal.sentence())
+            refusal_members(json, refusal, None, looks_like(file))
         })
     })?;
     Ok(Status::Refused)

@@ -10,8 +10,10 @@ const EXAMINE: &str = "\
 blotheath examine FILE.. [--json]
 
 A line for each file: it passes, with its numbers of records, constants, names and lines; or it is refused, with the
-refusal's number, a sentence, and the record, offset and source line where that can be told. Folders are walked for files
-that end in .mrb, in letters of any case. Several files end with a summary.
+refusal's number, a sentence, and the record, offset and source line where that can be told. Of a file that does not begin
+as a pattern does, it tells what the first bytes look like, such as a picture or plain text; no verdict is taken from that,
+and in JSON it is \"looks_like\". Folders are walked for files that end in .mrb, in letters of any case. Several files end
+with a summary.
 
 Examples
     blotheath examine oval.mrb

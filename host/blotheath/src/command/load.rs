@@ -5,7 +5,7 @@ use super::style::Style;
 use super::text::{self, counted, grouped};
 use super::verdict::{self, count_members};
 use super::{MOST_SHOWN, Status, input, unusable};
-use blotheath::{Constant, Pattern, Record, Refusal, Text, locate};
+use blotheath::{Constant, Pattern, Record, Refusal, Text, locate, looks_like};
 use std::cell::Cell;
 use std::io::{self, Write};
 use std::path::Path;
@@ -427,7 +427,7 @@ fn write_json(
             Ok(pattern) => write_rows(json, pattern, all),
             Err(refusal) => {
                 let place = locate(file, None, *refusal);
-                verdict::refusal_members(json, *refusal, place.as_ref())
+                verdict::refusal_members(json, *refusal, place.as_ref(), looks_like(file))
             }
         }
     })?;

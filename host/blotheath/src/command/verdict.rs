@@ -2,7 +2,7 @@
 
 use super::json::Json;
 use super::text::{counted, visible};
-use blotheath::{Counts, Pattern, Place, Refusal, examine, load, locate};
+use blotheath::{Counts, Pattern, Place, Refusal, examine, load, locate, looks_like};
 use std::io;
 
 /// What examination says of a file.
@@ -11,6 +11,8 @@ pub enum Verdict<'a> {
     Refused {
         refusal: Refusal,
         place: Option<Place>,
+        /// What a file that is no pattern looks like.
+        looks_like: Option<&'static str>,
         /// The pattern, where the file loads all the same.
         pattern: Option<Pattern<'a>>,
     },
@@ -30,6 +32,7 @@ pub fn judge(file: &[u8]) -> Verdict<'_> {
     Verdict::Refused {
         refusal,
         place,
+        looks_like: looks_like(file),
         pattern,
     }
 }
@@ -70,9 +73,12 @@ impl<'a> Verdict<'a> {
             Verdict::Passes(pattern) => json
                 .key("rows")?
                 .object(|json| count_members(json, pattern.counts())),
-            Verdict::Refused { refusal, place, .. } => {
-                refusal_members(json, *refusal, place.as_ref())
-            }
+            Verdict::Refused {
+                refusal,
+                place,
+                looks_like,
+                ..
+            } => refusal_members(json, *refusal, place.as_ref(), *looks_like),
         }
     }
 }
@@ -85,10 +91,18 @@ pub fn refused(refusal: Refusal, place: Option<&Place>) -> String {
     }
 }
 
-/// A refusal and its place as members of a JSON object.
-pub fn refusal_members(json: &mut Json, refusal: Refusal, place: Option<&Place>) -> io::Result<()> {
+/// A refusal, what the file looks like, and the place, as members of a JSON object.
+pub fn refusal_members(
+    json: &mut Json,
+    refusal: Refusal,
+    place: Option<&Place>,
+    looks_like: Option<&str>,
+) -> io::Result<()> {
     json.key("refusal")?.number(refusal.number())?;
     json.key("sentence")?.string(refusal.sentence())?;
+    if let Some(like) = looks_like {
+        json.key("looks_like")?.string(like)?;
+    }
     match place {
         Some(place) => json.key("place")?.object(|json| place_members(json, place)),
         None => Ok(()),

@@ -1,15 +1,25 @@
-//! Where a refusal by 1 to 14 lies: a reading of the file's bytes, forward as paper 01 says.
+//! Where a refusal of loading lies: a reading of the file's bytes, forward as the papers say.
 
 use super::Place;
-use crate::FILE_LIMIT;
+use crate::hint::looks_like;
 use crate::tables::{
     self, FILENAMES, FILES, HANDLERS, LINES, NAMES, POOL, RECORD_LIMIT, RECORDS, STRINGS, SYMBOLS,
 };
+use crate::{FILE_LIMIT, IDENT};
 use std::fmt::Arguments;
+use std::ops::Range;
 
 /// The bytes of the file's header, and of the shortest file.
 const HEADER_BYTES: usize = 20;
 const FEWEST_BYTES: usize = 32;
+
+/// The header's fields: the version, of which the first two bytes are the major one, and the file's size.
+const MAJOR: Range<usize> = 4..6;
+const VERSION: Range<usize> = 4..8;
+const SIZE: Range<usize> = 8..12;
+
+/// What a place in the header names as its section.
+const HEADER: Option<&str> = Some("header");
 
 /// A name index that stands for no name.
 const UNNAMED: u32 = 65_535;
@@ -165,14 +175,16 @@ impl<'a> Reader<'a> {
         let length = self.file.len();
         if length > FILE_LIMIT {
             let what = "the file goes on behind its 65,536th byte".to_owned();
-            return Err(met(1, None, FILE_LIMIT, what));
+            return Err(met(1, None, FILE_LIMIT, self.hinted(what)));
         }
         let ends = || format!("the file ends here, after {length} bytes");
         if length < HEADER_BYTES {
-            return Err(met(2, Some("header"), length, ends()));
+            return Err(met(2, HEADER, length, self.hinted(ends())));
         }
-        if self.file[4..6] != *b"04" {
-            return Err(met(3, Some("header"), 4, self.version()));
+        self.read_ident()?;
+        self.read_size()?;
+        if self.file[MAJOR] != *b"04" {
+            return Err(met(3, HEADER, MAJOR.start, self.version()));
         }
         if length < FEWEST_BYTES {
             return Err(met(4, None, length, ends()));
@@ -180,25 +192,46 @@ impl<'a> Reader<'a> {
         Ok(())
     }
 
+    fn read_ident(&self) -> Result<(), Met> {
+        let mut pairs = IDENT.iter().zip(self.file);
+        let Some(byte) = pairs.position(|(one, other)| one != other) else {
+            return Ok(());
+        };
+        let begins = self.file[..IDENT.len()].escape_ascii();
+        let what = format!("the file begins with \"{begins}\"");
+        Err(met(27, HEADER, byte, self.hinted(what)))
+    }
+
+    fn read_size(&self) -> Result<(), Met> {
+        let length = self.file.len();
+        let size = high_first(&self.file[SIZE]) as usize;
+        if size > length {
+            let what = format!("the header states {size} bytes, and the file has {length}");
+            return Err(met(28, HEADER, SIZE.start, what));
+        }
+        Ok(())
+    }
+
+    /// What stands at a place of a file that may be no pattern, and what the file looks like.
+    fn hinted(&self, what: String) -> String {
+        match looks_like(self.file) {
+            Some(like) => format!("{what}; it looks like {like}"),
+            None => what,
+        }
+    }
+
     /// The version that the header states.
     fn version(&self) -> String {
-        let digits = &self.file[4..8];
-        let release = match &digits[..2] {
+        let release = match &self.file[MAJOR] {
             b"03" => ", mruby 3.x",
             _ => "",
         };
+        let digits = &self.file[VERSION];
         let version = match digits.iter().all(u8::is_ascii_digit) {
             true => digits.escape_ascii().to_string(),
             false => format!("\"{}\"", digits.escape_ascii()),
         };
-        let ident = &self.file[..4];
-        match ident {
-            b"RITE" => format!("the version is {version}{release}"),
-            _ => format!(
-                "the version is {version}{release}, and the file begins with \"{}\" instead of RITE",
-                ident.escape_ascii()
-            ),
-        }
+        format!("the version is {version}{release}")
     }
 
     /// Reads the section that begins at a place, and answers its size.

@@ -22,7 +22,7 @@ pub struct Place {
     pub what: String,
 }
 
-/// The place of a file's refusal: by 15 to 20 over the pattern that it loads to, by 1 to 14 over its bytes alone.
+/// The place of a file's refusal: by examination over the pattern that it loads to, by loading over its bytes alone.
 pub fn locate(file: &[u8], pattern: Option<&Pattern>, refusal: Refusal) -> Option<Place> {
     let (number, place) = match pattern {
         Some(pattern) => examined::search(pattern),

@@ -1,8 +1,38 @@
 //! Files built for tests, hostile ones among them.
 
-/// A file header and these sections.
+use std::ops::Range;
+
+/// A file header and these sections; the header states the file's length.
 pub fn file(sections: &[Vec<u8>]) -> Vec<u8> {
-    [b"RITE0400".to_vec(), vec![0; 12], sections.concat()].concat()
+    let mut file = [b"RITE0400".to_vec(), vec![0; 12], sections.concat()].concat();
+    state_length(&mut file);
+    file
+}
+
+/// Where a file's header states its size.
+pub const SIZE: Range<usize> = 8..12;
+
+/// Makes the header state the file's length, where the file reaches so far.
+pub fn state_length(file: &mut [u8]) {
+    let length = file.len() as u32;
+    if let Some(size) = file.get_mut(SIZE) {
+        size.copy_from_slice(&length.to_be_bytes());
+    }
+}
+
+/// A file cut, or filled with zeros, to a length that its header states.
+pub fn resized(file: &[u8], length: usize) -> Vec<u8> {
+    let mut file = file.to_vec();
+    file.resize(length, 0);
+    state_length(&mut file);
+    file
+}
+
+/// A drawing that somebody took for a pattern: the start of a PNG picture, so many bytes long.
+pub fn drawing(length: usize) -> Vec<u8> {
+    let mut drawing = b"\x89PNG\r\n\x1a\n\0\0\0\rIHDR\0\0\0\x40\0\0\0\x40\x08\x02\0\0\0".to_vec();
+    drawing.resize(length, 0);
+    drawing
 }
 
 pub fn section(mark: &[u8; 4], content: &[u8]) -> Vec<u8> {

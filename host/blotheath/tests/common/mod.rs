@@ -175,11 +175,16 @@ impl Numbers {
     }
 }
 
-/// A file with a few bytes changed, or cut, or longer.
+/// A file with a few bytes changed, or cut, or longer; the header of one that is cut mostly states its length.
 pub fn damaged(file: &[u8], numbers: &mut Numbers) -> Vec<u8> {
     let mut bytes = file.to_vec();
     match numbers.below(8) {
-        0 => bytes.truncate(numbers.below(file.len())),
+        0 => {
+            bytes.truncate(numbers.below(file.len()));
+            if numbers.below(8) > 0 {
+                build::state_length(&mut bytes);
+            }
+        }
         1 => bytes.extend((0..numbers.below(40)).map(|n| n as u8)),
         _ => {}
     }

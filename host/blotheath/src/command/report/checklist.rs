@@ -17,18 +17,17 @@ enum When {
     RecordsMap,
 }
 
-/// What a file that passes keeps, with the refusals that say otherwise.
+/// What a file that passes keeps.
 struct Condition {
-    first: u32,
-    last: u32,
+    /// The refusal that says otherwise; none where all of loading's do.
+    number: Option<u32>,
     when: When,
     sentence: &'static str,
 }
 
 const fn condition(number: u32, when: When, sentence: &'static str) -> Condition {
     Condition {
-        first: number,
-        last: number,
+        number: Some(number),
         when,
         sentence,
     }
@@ -37,8 +36,7 @@ const fn condition(number: u32, when: When, sentence: &'static str) -> Condition
 /// The conditions in examination's order.
 const CONDITIONS: [Condition; 7] = [
     Condition {
-        first: 1,
-        last: 14,
+        number: None,
         when: When::Loading,
         sentence: "The file can be read as the format says.",
     },
@@ -102,7 +100,16 @@ impl State {
 
 impl Condition {
     fn is_of(&self, refusal: Refusal) -> bool {
-        (self.first..=self.last).contains(&refusal.number())
+        match self.number {
+            Some(number) => refusal.number() == number,
+            None => refusal.is_of_loading(),
+        }
+    }
+
+    /// The numbers of the refusals that say otherwise.
+    fn numbers(&self) -> String {
+        let refusals = Refusal::all().filter(|refusal| self.is_of(*refusal));
+        runs(refusals.map(Refusal::number))
     }
 
     /// How far this condition was looked at before another, broken one ended the examination.
@@ -123,7 +130,7 @@ impl Condition {
             false => None,
         };
         let steps = match offset {
-            Some(offset) if self.first < broken.first => format!("up to offset {offset}"),
+            Some(offset) if self.number < broken.number => format!("up to offset {offset}"),
             Some(offset) if offset > 0 => format!("before offset {offset}"),
             _ => String::new(),
         };
@@ -159,6 +166,7 @@ fn state(condition: &Condition, verdict: &Verdict) -> State {
         refusal,
         place,
         pattern,
+        ..
     } = verdict
     else {
         return State::Holds;
@@ -175,6 +183,23 @@ fn state(condition: &Condition, verdict: &Verdict) -> State {
     }
 }
 
+/// Numbers that rise, in words: the first and the last of each run.
+fn runs(numbers: impl Iterator<Item = u32>) -> String {
+    let mut runs: Vec<(u32, u32)> = Vec::new();
+    for number in numbers {
+        match runs.last_mut() {
+            Some((_, last)) if *last + 1 == number => *last = number,
+            _ => runs.push((number, number)),
+        }
+    }
+    let told = runs.iter().map(|(first, last)| match last - first {
+        0 => first.to_string(),
+        1 => format!("{first}, {last}"),
+        _ => format!("{first} to {last}"),
+    });
+    told.collect::<Vec<String>>().join(", ")
+}
+
 pub fn write(out: &mut dyn Write, verdict: &Verdict) -> io::Result<()> {
     writeln!(
         out,
@@ -182,14 +207,11 @@ pub fn write(out: &mut dyn Write, verdict: &Verdict) -> io::Result<()> {
     )?;
     for condition in &CONDITIONS {
         let state = state(condition, verdict);
-        let numbers = match condition.first == condition.last {
-            true => condition.first.to_string(),
-            false => format!("{} to {}", condition.first, condition.last),
-        };
         writeln!(
             out,
-            "<tr class=\"{}\"><td class=\"number\">{numbers}</td><td class=\"sentence\">{}</td><td class=\"state\">{}</td></tr>",
+            "<tr class=\"{}\"><td class=\"number\">{}</td><td class=\"sentence\">{}</td><td class=\"state\">{}</td></tr>",
             state.class(),
+            condition.numbers(),
             condition.sentence,
             escape(state.told())
         )?;
@@ -235,7 +257,9 @@ mod tests {
 
     #[test]
     fn a_file_that_does_not_load() {
-        assert_eq!(told(7, None), ["not looked at"; 6]);
+        for number in [7, 27, 28] {
+            assert_eq!(told(number, None), ["not looked at"; 6]);
+        }
     }
 
     #[test]
@@ -302,9 +326,18 @@ mod tests {
 
     #[test]
     fn every_refusal_of_a_file_has_a_condition() {
-        for number in 1..=20 {
-            let of = CONDITIONS.iter().filter(|one| one.is_of(Refusal(number)));
-            assert_eq!(of.count(), 1, "{number}");
+        for refusal in Refusal::all() {
+            let of = CONDITIONS.iter().filter(|one| one.is_of(refusal));
+            let is_of_a_file = refusal.is_of_loading() || refusal.is_of_examination();
+            assert_eq!(of.count(), usize::from(is_of_a_file), "{refusal}");
         }
+    }
+
+    #[test]
+    fn numbers_of_conditions() {
+        assert_eq!(CONDITIONS[0].numbers(), "1 to 14, 27, 28");
+        assert_eq!(CONDITIONS[1].numbers(), "15");
+        assert_eq!(runs([].into_iter()), "");
+        assert_eq!(runs([1, 3, 4, 6, 7, 8].into_iter()), "1, 3, 4, 6 to 8");
     }
 }

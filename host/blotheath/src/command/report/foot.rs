@@ -14,7 +14,7 @@ pub fn write(out: &mut dyn Write, page: &Page) -> io::Result<()> {
     }
     writeln!(
         out,
-        "</dl><p>Numbers of refusals are those of the format’s paper.</p></footer>"
+        "</dl><p>Numbers of refusals are those of the format’s papers.</p></footer>"
     )
 }
 

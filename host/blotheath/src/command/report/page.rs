@@ -260,6 +260,7 @@ mod tests {
         let verdict = Verdict::Refused {
             refusal: Refusal(5),
             place: Some(place),
+            looks_like: None,
             pattern: None,
         };
         let page = Page {
@@ -283,7 +284,7 @@ mod tests {
             line: None,
             what: "the mark is IREQ".to_owned(),
         };
-        let page = shown(b"RITE0400____________IREQ", place);
+        let page = shown(b"RITE0400\0\0\0\0\0\0\0\0\0\0\0\0IREQ", place);
         assert!(page.contains("<mark>49</mark>") && page.contains("<mark>I</mark>"));
         assert!(page.contains("he mark is IREQ."));
         assert!(!page.contains("href=\"#"));

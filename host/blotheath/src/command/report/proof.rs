@@ -24,11 +24,11 @@ const CLAIMS: [(&str, &str); 4] = [
 
 /// What the proofs rest on.
 const TRUSTED: [&str; 4] = [
-    "The definitions in crates/format/specs say what the format is. They are short, and are to be read beside the format's paper.",
+    "The definitions in crates/format/specs say what the format is. They are short, and are to be read beside the format's papers.",
     "The logic and the compiler of the Rattle kit, and the call from this program into the proved archive.",
     "This program reads the file, asks the proved archive, and draws this page. It is tested, not proved. Names of opcodes, words \
-     for arguments and parameters, labels of records, jumps, pictures, and the place of a refusal, with how far each condition was \
-     looked at, are its own.",
+     for arguments and parameters, labels of records, jumps, pictures, the place of a refusal, with how far each condition was \
+     looked at, and what a file that is no pattern looks like, are its own.",
     "Nothing proves that a source text shown here is the text that the pattern was made from.",
 ];
 
