@@ -3,10 +3,11 @@
 use crate::Stop;
 use crate::args::Args;
 use crate::generate::Generator;
-use crate::load::{at_work, corpus, difference, garbage, other_sizes, watch};
+use crate::load::{ANSWERS, at_work, corpus, difference, garbage, other_sizes, watch};
 use crate::rng::Rng;
 use crate::subject::{Subject, first_difference, subjects};
 use model::{Refusal, Sizes};
+use std::collections::BTreeMap;
 
 /// What examination answers on a file of the corpus, by the corpus's own description.
 pub fn of_corpus(name: &str) -> Refusal {
@@ -27,7 +28,7 @@ pub fn compare(args: &Args) -> Result<(), Stop> {
     watch();
     let subjects = subjects();
     let corpus = corpus();
-    let mut by_number = [[0u64; 2]; 21];
+    let mut by_number = BTreeMap::<Refusal, [u64; 2]>::new();
     for (i, (name, file)) in corpus.iter().enumerate() {
         let mut rng = Rng::new(seed, u64::MAX - i as u64);
         let [fitting, _] =
@@ -53,13 +54,14 @@ pub fn compare(args: &Args) -> Result<(), Stop> {
         let answers = one(&subjects, &file, &mut rng)
             .map_err(|why| difference(&format!("seed {seed} index {index}"), &file, &why))?;
         for (side, answer) in answers.into_iter().enumerate() {
-            by_number[answer as usize][side] += 1;
+            by_number.entry(answer).or_default()[side] += 1;
         }
     }
     let names: Vec<&str> = subjects.iter().map(|subject| subject.name()).collect();
     println!("subjects: {}", names.join(", "));
     println!("answers over tables that fit, and over other sizes:");
-    for (number, [fitting, other]) in by_number.iter().enumerate() {
+    for number in ANSWERS.into_iter().chain(15..=20) {
+        let [fitting, other] = by_number.get(&number).copied().unwrap_or_default();
         let name = match number {
             0 => "passed".to_owned(),
             n => format!("refused {n}"),

@@ -4,15 +4,16 @@ use crate::Stop;
 use crate::args::Args;
 use crate::examine::of_corpus;
 use crate::generate::Generator;
-use crate::load::{at_work, corpus, difference, garbage, hex, other_sizes, watch};
+use crate::load::{ANSWERS, at_work, corpus, difference, garbage, hex, other_sizes, watch};
 use crate::rng::Rng;
 use crate::subject::{Model, Subject, first_difference, subjects};
-use model::Sizes;
+use model::{Refusal, Sizes};
+use std::collections::BTreeMap;
 
 #[derive(Default)]
 struct Counts {
     runs: u64,
-    by_number: [u64; 22],
+    by_number: BTreeMap<Refusal, u64>,
     finished: u64,
     with_line: u64,
     choices: u64,
@@ -68,12 +69,14 @@ pub fn compare(args: &Args) -> Result<(), Stop> {
     let names: Vec<&str> = subjects.iter().map(|subject| subject.name()).collect();
     println!("subjects: {}", names.join(", "));
     println!("runs: {}", counts.runs);
-    for (number, runs) in counts.by_number.iter().enumerate().skip(1) {
-        println!("  refused {number:<3}{runs:>9}");
+    let runs_of = |number| counts.by_number.get(&number).copied().unwrap_or(0);
+    for number in ANSWERS.into_iter().skip(1).chain(15..=21) {
+        println!("  refused {number:<3}{:>9}", runs_of(number));
     }
     println!(
         "  ran        {:>9}, of {} choices in all",
-        counts.by_number[0], counts.choices
+        runs_of(0),
+        counts.choices
     );
     println!("  finished   {:>9}", counts.finished);
     println!("  with a line{:>9}", counts.with_line);
@@ -207,7 +210,7 @@ fn one(
     }
     let [finished, _, _, found, _, frames] = right.numbers;
     counts.runs += 1;
-    counts.by_number[right.refusal as usize] += 1;
+    *counts.by_number.entry(right.refusal).or_default() += 1;
     if right.refusal == 0 {
         counts.choices += model::choices(&choices).map_or(0, |list| list.len() as u64);
         counts.finished += u64::from(finished);

@@ -1,7 +1,7 @@
-//! Files from a seed: valid, damaged and at the boundaries of paper 01.
+//! Files from a seed: valid, damaged and at the boundaries of the papers.
 
 use crate::rng::Rng;
-use model::{Flow, OPCODES, Role, flow, roles};
+use model::{Flow, HEADER, OPCODES, Role, flow, roles};
 
 /// Makes files; the corpus is the stock of real ones.
 pub struct Generator {
@@ -9,7 +9,7 @@ pub struct Generator {
 }
 
 /// The families of files, in the order in which they are counted.
-pub const FAMILIES: [&str; 12] = [
+pub const FAMILIES: [&str; 13] = [
     "structured",
     "debug",
     "overlapping",
@@ -22,7 +22,11 @@ pub const FAMILIES: [&str; 12] = [
     "many records",
     "many children",
     "bytes",
+    "ident and size",
 ];
+
+/// The family that meets 27 and 28; the others have the ident and no size above their length.
+const IDENT_AND_SIZE: usize = 12;
 
 impl Generator {
     /// The file of a seed and an index, with its family.
@@ -35,20 +39,21 @@ impl Generator {
             sound: false,
         };
         let family = match maker.rng.below(1000) {
-            0..280 => 0,
-            280..440 => 1,
-            440..540 => 2,
-            540..640 => 3,
-            640..680 => 4,
-            680..800 => 5,
-            800..920 => 6,
-            920..960 => 7,
-            960..980 => 8,
-            980..985 => 9,
-            985..990 => 10,
-            _ => 11,
+            0..250 => 0,
+            250..400 => 1,
+            400..500 => 2,
+            500..600 => 3,
+            600..640 => 4,
+            640..760 => 5,
+            760..880 => 6,
+            880..920 => 7,
+            920..940 => 8,
+            940..945 => 9,
+            945..950 => 10,
+            950..960 => 11,
+            _ => IDENT_AND_SIZE,
         };
-        let file = match family {
+        let mut file = match family {
             0 => maker.structured(false),
             1 => maker.structured(true),
             2 => maker.overlapping(),
@@ -67,8 +72,12 @@ impl Generator {
             8 => maker.long(),
             9 => maker.many_records(),
             10 => maker.many_children(),
-            _ => maker.any_bytes(),
+            11 => maker.any_bytes(),
+            _ => maker.ident_and_size(),
         };
+        if family != IDENT_AND_SIZE {
+            maker.finish_header(&mut file);
+        }
         (family, file)
     }
 
@@ -92,6 +101,7 @@ impl Generator {
         if maker.rng.one_in(2) {
             maker.flaw(&mut file);
         }
+        maker.finish_header(&mut file);
         file
     }
 
@@ -108,7 +118,9 @@ impl Generator {
                     odd: 0,
                     sound: true,
                 };
-                maker.structured(debug)
+                let mut file = maker.structured(debug);
+                maker.finish_header(&mut file);
+                file
             }
         }
     }
@@ -135,6 +147,18 @@ fn be2(n: usize) -> [u8; 2] {
 
 fn be4(n: usize) -> [u8; 4] {
     (n as u32).to_be_bytes()
+}
+
+/// States a size in a file's header.
+pub fn state_size(file: &mut [u8], size: usize) {
+    overwrite(file, 8, &be4(size));
+}
+
+/// Writes bytes at a place, as far as the file goes.
+pub fn overwrite(file: &mut [u8], at: usize, bytes: &[u8]) {
+    for (byte, new) in file.iter_mut().skip(at).zip(bytes) {
+        *byte = *new;
+    }
 }
 
 /// A section with any stated size.
@@ -474,12 +498,11 @@ impl Maker {
         rlens
     }
 
-    /// The file header with any of the fields that are not looked at.
+    /// The file header with size 0 and any of the fields that are not looked at.
     fn header(&mut self) -> Vec<u8> {
-        let mut header = b"RITE0400".to_vec();
-        header.extend(self.rng.bytes(12));
+        let mut header = b"RITE0400\0\0\0\0".to_vec();
+        header.extend(self.rng.bytes(8));
         if self.rng.one_in(8) {
-            header[..4].copy_from_slice(&self.rng.word().to_be_bytes());
             header[6..8].copy_from_slice(&be2(self.rng.below(65_536)));
         }
         if self.odd() {
@@ -487,6 +510,86 @@ impl Maker {
             header[4..6].copy_from_slice(&[major, self.rng.pick(b"0345\x04\0")]);
         }
         header
+    }
+
+    fn other_major(&mut self) -> [u8; 2] {
+        self.rng.pick(&[*b"03", *b"05", *b"40", *b"0\0", *b"14"])
+    }
+
+    /// Gives a whole header the ident and a size that the file has: its length, or now and then one below it.
+    fn finish_header(&mut self, file: &mut [u8]) {
+        if file.len() < HEADER {
+            return;
+        }
+        overwrite(file, 0, b"RITE");
+        let length = file.len();
+        let size = match self.rng.below(8) {
+            0 => self.rng.pick(&[0, 1, length - 1]),
+            1 => self.rng.below(length),
+            _ => length,
+        };
+        state_size(file, size);
+    }
+
+    /// A file with another ident, a size around its length, another major, or some of these.
+    fn ident_and_size(&mut self) -> Vec<u8> {
+        let mut file = match self.rng.below(16) {
+            0 => self.long(),
+            1..=6 => self.header_only(),
+            _ => self.structured(false),
+        };
+        self.finish_header(&mut file);
+        if self.rng.one_in(3) {
+            let ident = self.other_ident();
+            overwrite(&mut file, 0, &ident);
+        }
+        if !self.rng.one_in(3) {
+            let size = self.any_size(file.len());
+            state_size(&mut file, size);
+        }
+        if self.rng.one_in(4) {
+            let major = self.other_major();
+            overwrite(&mut file, 4, &major);
+        }
+        file
+    }
+
+    /// An ident with one letter changed, or the first bytes of another file.
+    fn other_ident(&mut self) -> [u8; 4] {
+        if self.rng.one_in(2) {
+            return self.rng.pick(&[
+                *b"\x89PNG",
+                *b"\xff\xd8\xff\xe0",
+                *b"%PDF",
+                *b"PK\x03\x04",
+                *b"puts",
+                *b"ETIR",
+                [0; 4],
+            ]);
+        }
+        let mut ident = *b"RITE";
+        let letter = &mut ident[self.rng.below(4)];
+        *letter = match self.rng.below(4) {
+            0 => *letter ^ 32,
+            1 => 0,
+            2 => *letter ^ (1 << self.rng.below(8)),
+            _ => *letter + self.rng.between(1, 6) as u8,
+        };
+        ident
+    }
+
+    /// A size at a file's length, a little or far above it, or with its bytes in another order.
+    fn any_size(&mut self, length: usize) -> usize {
+        match self.rng.below(10) {
+            0 => length,
+            1..=3 => length + 1,
+            4 => length + self.rng.between(2, 300),
+            5 => length + (1 << self.rng.pick(&[8, 16, 24])),
+            6 => (length as u32).swap_bytes() as usize,
+            7 => 1 << 31,
+            8 => u32::MAX as usize,
+            _ => self.rng.word() as usize,
+        }
     }
 
     /// An IREP section of these records, one behind the other.
@@ -932,7 +1035,8 @@ impl Maker {
     fn header_only(&mut self) -> Vec<u8> {
         let mut file = self.header();
         if self.rng.one_in(3) {
-            file[4..6].copy_from_slice(&self.rng.pick(&[*b"03", *b"05", *b"40", *b"0\0", *b"14"]));
+            let major = self.other_major();
+            overwrite(&mut file, 4, &major);
         }
         let rest = match self.rng.below(4) {
             0 => b"END\0\0\0\0\x0c\0\0\0\0".to_vec(),
@@ -1107,7 +1211,7 @@ impl Maker {
     }
 
     /// Changes one thing that examination looks at, in a record of the file as it loads.
-    fn flaw(&mut self, file: &mut Vec<u8>) {
+    fn flaw(&mut self, file: &mut [u8]) {
         let reading = model::read(file, [usize::MAX; 9]);
         let records = reading.rows.records.rows;
         if reading.end.is_err() || records.is_empty() {
@@ -1294,5 +1398,28 @@ impl Maker {
                 file.splice(start..start, end);
             }
         }
+    }
+}
+
+#[cfg(test)]
+mod tests {
+    use super::*;
+
+    #[test]
+    fn one_family_meets_27_and_28() {
+        let corpus = crate::load::corpus().into_iter().map(|(_, file)| file);
+        let generator = Generator {
+            corpus: corpus.collect(),
+        };
+        let mut met = Vec::new();
+        for index in 0..3_000 {
+            let (family, file) = generator.file(1, index);
+            let end = model::read(&file, [usize::MAX; 9]).end;
+            if let Err(number @ (27 | 28)) = end {
+                assert_eq!(family, IDENT_AND_SIZE, "index {index} is of {number}");
+                met.push(number);
+            }
+        }
+        assert!(met.contains(&27) && met.contains(&28));
     }
 }

@@ -3,11 +3,11 @@
 use crate::Stop;
 use crate::args::Args;
 use crate::expected;
-use crate::generate::{FAMILIES, Generator};
-use crate::oracle::{self, Outcome};
+use crate::generate::{FAMILIES, Generator, state_size};
+use crate::oracle::{self, OWN_RULE, Outcome};
 use crate::rng::Rng;
 use crate::subject::{Subject, first_difference, subjects};
-use model::{Entry, NAMES, ROW_WORDS, Record, Refusal, Rows, Sizes, Tables};
+use model::{Entry, HEADER, NAMES, ROW_WORDS, Record, Refusal, Rows, Sizes, Tables};
 use original::Error;
 use std::collections::BTreeMap;
 use std::path::PathBuf;
@@ -15,14 +15,14 @@ use std::sync::Mutex;
 use std::time::{Duration, Instant};
 use std::{env, fs, process, thread};
 
-/// The refusals on which the original's `load` is not called: outside the domain, or it never ends.
-const NOT_CALLED: [Refusal; 4] = [1, 6, 8, 14];
+/// The answers of a load: 0, paper 01's refusals, paper 02's of files that are not pattern files.
+pub const ANSWERS: [Refusal; 17] = [0, 1, 2, 3, 4, 5, 6, 7, 8, 9, 10, 11, 12, 13, 14, 27, 28];
 
 /// What is counted over the files of a run.
 #[derive(Default)]
 pub struct Counts {
     files: u64,
-    by_number: [u64; 15],
+    by_number: BTreeMap<Refusal, u64>,
     by_end: BTreeMap<(Refusal, &'static str), u64>,
     by_family: [[u64; 2]; FAMILIES.len()],
     rows: [u64; 9],
@@ -36,11 +36,12 @@ impl Counts {
     /// The counts in words.
     pub fn words(&self) -> String {
         let mut text = format!("files: {}\n", self.files);
-        for (number, files) in self.by_number.iter().enumerate() {
+        for number in ANSWERS {
+            let files = self.by_number.get(&number).copied().unwrap_or(0);
             let ends: Vec<String> = self
                 .by_end
                 .iter()
-                .filter(|((n, _), _)| *n == number as Refusal)
+                .filter(|((n, _), _)| *n == number)
                 .map(|((_, end), files)| format!("{end} {files}"))
                 .collect();
             let name = match number {
@@ -48,8 +49,8 @@ impl Counts {
                 n => format!("refused {n}"),
             };
             let end = match number {
-                _ if *files == 0 => "never met".to_owned(),
-                1 => "outside the domain".to_owned(),
+                _ if files == 0 => "never met".to_owned(),
+                n if OWN_RULE.contains(&n) => "left out, the comparison's own rule".to_owned(),
                 _ if ends.is_empty() => "load not called, its readers one by one".to_owned(),
                 _ => ends.join(", "),
             };
@@ -106,7 +107,7 @@ impl Counts {
 
     fn count(&mut self, number: Refusal, end: Option<&'static str>, tables: &Tables) {
         self.files += 1;
-        self.by_number[number as usize] += 1;
+        *self.by_number.entry(number).or_default() += 1;
         if let Some(end) = end {
             *self.by_end.entry((number, end)).or_default() += 1;
         }
@@ -279,6 +280,12 @@ pub fn damaged() -> Result<(), Stop> {
         for length in 0..=file.len() {
             hold(&file[..length], format!("{name} cut to {length}"))?;
         }
+        // The size of a header that is cut is not looked at.
+        for length in HEADER..file.len() {
+            let mut cut = file[..length].to_vec();
+            state_size(&mut cut, length);
+            hold(&cut, format!("{name} cut to {length}, with that size"))?;
+        }
         let mut changed = file.clone();
         for at in 0..file.len() {
             let byte = file[at];
@@ -347,8 +354,7 @@ pub fn one(
             "the model answers {number}, the original's readers {exact}"
         ));
     }
-    let called = !NOT_CALLED.contains(&number);
-    let outcome = called.then(|| oracle::load(file));
+    let outcome = oracle::load_of(number, file);
     if let Some(outcome) = &outcome
         && !outcome.is_named(number)
     {

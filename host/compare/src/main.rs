@@ -1,4 +1,4 @@
-//! Holds paper 01's model, and the port where it is linked, against the original.
+//! Holds the papers' model, and the port where it is linked, against the original.
 
 mod args;
 #[cfg(feature = "port")]
@@ -23,7 +23,7 @@ use std::process::ExitCode;
 
 const USAGE: &str = "\
 compare load --files N --seed S [--first I]   generated files, the corpus first
-compare damage                                every cut and many changes of the corpus
+compare damage                                every cut, with the old size and its own, and many changes of the corpus
 compare make --files N --seed S [--first I] [--number R] -o FOLDER
                                               writes generated files, of one answer only
 compare file PATH..                           these files

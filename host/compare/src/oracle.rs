@@ -1,7 +1,7 @@
 //! The original's answer: of its `load`, and of its readers section by section, which tell the numbers apart.
 
 use crate::quiet::inside;
-use model::Refusal;
+use model::{HEADER, Refusal};
 use original::Error;
 use original::marker::{DBG, END, IREP, LVAR};
 use original::rite::rite::{self, Irep, Rite};
@@ -9,6 +9,32 @@ use original::rite::rite::{self, Irep, Rite};
 /// "over 65,536 bytes" and "the 1,024 records", which the original does not know.
 const FILE_LIMIT: usize = 65_536;
 const RECORD_LIMIT: usize = 1_024;
+
+/// "1: over 65,536 bytes."
+pub const TOO_LONG: Refusal = 1;
+/// "6: a second IREP, LVAR or DBG, or LVAR or DBG before IREP."
+const SECTION_ORDER: Refusal = 6;
+/// "8: after its content, an IREP, LVAR or END section or a record has size 0."
+const SIZE_0: Refusal = 8;
+/// "14: a needed row is beyond its lent table or the 1,024 records"
+pub const NO_ROW: Refusal = 14;
+/// "27 when the first four bytes are not ASCII RITE"
+const OTHER_IDENT: Refusal = 27;
+/// "28 when the header's size exceeds the file's length"
+const SIZE_TOO_LARGE: Refusal = 28;
+
+/// The numbers of which the original says nothing: their rules are the comparison's own.
+pub const OWN_RULE: [Refusal; 3] = [TOO_LONG, OTHER_IDENT, SIZE_TOO_LARGE];
+
+/// The numbers on which the original's `load` is not called: outside the domain, or it never ends.
+const NOT_CALLED: [Refusal; 6] = [
+    TOO_LONG,
+    SECTION_ORDER,
+    SIZE_0,
+    NO_ROW,
+    OTHER_IDENT,
+    SIZE_TOO_LARGE,
+];
 
 /// How a load by the original ends.
 pub enum Outcome<'a> {
@@ -24,6 +50,11 @@ pub fn load(file: &[u8]) -> Outcome<'_> {
         Ok(Err(error)) => Outcome::Refused(error),
         Err(words) => Outcome::Panicked(words),
     }
+}
+
+/// Loads a file of this number with the original, where it is called.
+pub fn load_of(number: Refusal, file: &[u8]) -> Option<Outcome<'_>> {
+    (!NOT_CALLED.contains(&number)).then(|| load(file))
 }
 
 impl Outcome<'_> {
@@ -90,26 +121,44 @@ impl End {
     }
 }
 
-/// The number that paper 01 gives to a file, 0 for a load, by the original's own readers of one section each.
+/// The number that the papers give to a file, 0 for a load, by the original's own readers of one section each.
 pub fn number(file: &[u8]) -> Refusal {
+    match header(file).and_then(|()| sections(&file[HEADER..])) {
+        Ok(()) => 0,
+        Err(number) => number,
+    }
+}
+
+/// The tests that come before the sections; Err is the number.
+fn header(file: &[u8]) -> Result<(), Refusal> {
     if file.len() > FILE_LIMIT {
-        return 1;
+        return Err(TOO_LONG);
+    }
+    if file.len() >= HEADER {
+        ident_and_size(file)?;
     }
     // Without sections the original answers for the header alone.
-    match inside(|| rite::load(&file[..file.len().min(20)])) {
-        Ok(Err(Error::TooShort)) if file.len() < 20 => return 2,
-        Ok(Err(Error::UnsupportedVersion(major))) if major == file[4..6] => return 3,
-        Ok(Err(Error::TooShort)) if file.len() < 32 => return 4,
-        Ok(Err(Error::TooShort)) => {}
+    match inside(|| rite::load(&file[..file.len().min(HEADER)])) {
+        Ok(Err(Error::TooShort)) if file.len() < HEADER => Err(2),
+        Ok(Err(Error::UnsupportedVersion(major))) if major == file[4..6] => Err(3),
+        Ok(Err(Error::TooShort)) if file.len() < 32 => Err(4),
+        Ok(Err(Error::TooShort)) => Ok(()),
         other => panic!(
             "the header alone answers {:?}",
             other.map(|a| a.map(|_| ()))
         ),
     }
-    match sections(&file[20..]) {
-        Ok(()) => 0,
-        Err(number) => number,
+}
+
+/// The two fields of a whole header that the original does not look at.
+fn ident_and_size(file: &[u8]) -> Result<(), Refusal> {
+    if !file.starts_with(b"RITE") {
+        return Err(OTHER_IDENT);
     }
+    if four(&file[8..]) > file.len() {
+        return Err(SIZE_TOO_LARGE);
+    }
+    Ok(())
 }
 
 /// Reads the sections in turn; Err is the number.
@@ -118,10 +167,10 @@ fn sections(mut head: &[u8]) -> Result<(), Refusal> {
     let mut begun = Vec::new();
     while let Some(mark) = rite::peek4(head) {
         if mark != END && begun.contains(&mark) {
-            return Err(6);
+            return Err(SECTION_ORDER);
         }
         if (mark == LVAR || mark == DBG) && !begun.contains(&IREP) {
-            return Err(6);
+            return Err(SECTION_ORDER);
         }
         begun.push(mark);
         let size = match mark {
@@ -140,7 +189,7 @@ fn sections(mut head: &[u8]) -> Result<(), Refusal> {
         }
         // The original reads a section of size 0 again for ever.
         if size == 0 {
-            return Err(8);
+            return Err(SIZE_0);
         }
         head = &head[size..];
     }
@@ -169,14 +218,14 @@ fn irep(head: &[u8]) -> Result<(usize, Vec<Irep<'_>>), Refusal> {
                         .map_err(|end| end.number(9))?;
                 }
                 if count == RECORD_LIMIT {
-                    return Err(if head.len() - place < 16 { 7 } else { 14 });
+                    return Err(if head.len() - place < 16 { 7 } else { NO_ROW });
                 }
                 // The record of size 0 stands alone, with size 1.
                 let mut alone = b"IREP\0\0\0\x0d\0\0\0\0\0\0\0\x01".to_vec();
                 alone.extend(&head[place + 4..]);
                 section(|| rite::section_irep_1(&alone).map(|_| ()))
                     .map_err(|end| end.number(9))?;
-                return Err(8);
+                return Err(SIZE_0);
             }
             place += stated;
             count += 1;

@@ -31,7 +31,7 @@
 //! The sum begins with 0; for each word w, table by table, it becomes (sum * 65599 + w + 1) modulo 4294967291.
 //! A replay fills the lent words with anything but the answer before each call, so that the sum shows every word written.
 //!
-//! Answers of load are the model's, held against the original before they are stored; 1, 6, 8 and 14 have no counterpart there.
+//! Answers of load are the model's, held against the original before they are stored; 1, 6, 8, 14, 27 and 28 have no counterpart there.
 //! Answers of fetch and of line lookups in maps are the original's. Those of examination, follow and the seven lookups are the model's:
 //! the original has none of them.
 
@@ -40,15 +40,16 @@ use crate::args::Args;
 use crate::expected;
 use crate::fetch;
 use crate::follow;
-use crate::generate::Generator;
+use crate::generate::{Generator, overwrite, state_size};
 use crate::lines;
-use crate::load::{Counts, corpus, garbage, one, other_sizes};
+use crate::load::{ANSWERS, Counts, corpus, garbage, one, other_sizes};
 use crate::lookups;
-use crate::oracle::{self, Outcome};
+use crate::oracle::{self, NO_ROW, Outcome, TOO_LONG};
 use crate::rng::Rng;
 use crate::subject::{Answer, Fetch, Follow, Found, LOOKUPS, Lookup, Model, Subject, subjects};
-use model::{OPCODES, Sizes, Tables};
+use model::{FILE_LIMIT, HEADER, OPCODES, Refusal, Sizes, Tables};
 use original::rite::rite::line_at;
+use std::collections::BTreeMap;
 use std::fs;
 
 /// The most bytes of a generated file, but for those at a limit.
@@ -159,13 +160,18 @@ fn file_a() -> Vec<u8> {
     file
 }
 
-/// Paper 01's samples of loading, examination and runs that are run by a program, with the paper's own answers.
+/// The papers' samples of loading, examination and runs that are run by a program, with the papers' own answers.
 fn samples(store: &mut Store) -> Result<(), String> {
     let a = file_a();
     let followed_by = |zeros: usize| [&a[..], &vec![0; zeros]].concat();
-    let end_alone = |size: u8| [&a[..20], b"END\0\0\0\0", &[size], &[0; 4]].concat();
+    // "The 32- and 31-byte samples then carry size 31."
+    let end_alone = |size: u8| {
+        let mut file = [&a[..HEADER], b"END\0\0\0\0", &[size], &[0; 4]].concat();
+        state_size(&mut file, 31);
+        file
+    };
     let mut jump = [&a[..48], &[38, 255, 252], &a[52..]].concat();
-    jump[11] = 63;
+    state_size(&mut jump, 63);
     jump[27] = 35;
     jump[35] = 23;
     jump[47] = 3;
@@ -179,11 +185,38 @@ fn samples(store: &mut Store) -> Result<(), String> {
     ] {
         sample(store, 2, &file, refusal, records)?;
     }
+    header_samples(store, &a)?;
     sample(store, 7, &end_alone(12), 15, 0)?;
     sample(store, 7, &jump, 18, 0)?;
     sample_run(store, &a, &[0], [0, 0, 2, 0, 0, 1])?;
     sample_run(store, &a, &[0, 0], [1, 0, 0, 0, 0, 0])?;
-    store.bytes(6, b"samples of the paper");
+    store.bytes(6, b"samples of the papers");
+    Ok(())
+}
+
+/// File A with another ident, size or major, and its first bytes with them: the borders and the order of 27 and 28.
+fn header_samples(store: &mut Store, a: &[u8]) -> Result<(), String> {
+    for (ident, size, major, length, refusal) in [
+        (b"RITE", 0, b"04", 64, 0),
+        (b"RITE", 65, b"04", 64, 28),
+        (b"RITE", 64 << 24, b"04", 64, 28),
+        (b"RITe", 64, b"04", 64, 27),
+        (b"ETIR", 64, b"04", 64, 27),
+        (b"\x89PNG", u32::MAX as usize, b"03", 19, 2),
+        (b"\x89PNG", u32::MAX as usize, b"03", 20, 27),
+        (b"\x89PNG", 64, b"04", 31, 27),
+        (b"RITE", 32, b"03", 31, 28),
+        (b"RITE", 32, b"04", 31, 28),
+        (b"RITE", 31, b"03", 31, 3),
+    ] {
+        let mut file = a.to_vec();
+        overwrite(&mut file, 0, ident);
+        state_size(&mut file, size);
+        overwrite(&mut file, 4, major);
+        let records = u32::from(refusal == 0);
+        sample(store, 2, &file[..length], refusal, records)?;
+        sample(store, 7, &file[..length], refusal, records)?;
+    }
     Ok(())
 }
 
@@ -242,21 +275,18 @@ fn loads(store: &mut Store, seed: u64, count: usize, counts: &mut Counts) -> Res
     let generator = Generator {
         corpus: corpus.into_iter().map(|(_, file)| file).collect(),
     };
-    let mut groups: [Store; 15] = Default::default();
-    let mut left = [count * 3 / 5 / 13 + 1; 15];
-    left[0] = count - count * 3 / 5;
-    // Files of 1 and the limit of 1,024 records need many bytes: one file of 1, and one on each side of the limit.
-    left[1] = 1;
-    left[14] = 0;
+    let mut groups = BTreeMap::from(ANSWERS.map(|number| (number, Group::of(number, count))));
+    // One file on each side of the limit of 1,024 records.
     let mut at_the_limit = [1, 1];
     for index in 0.. {
-        let all = left.iter().chain(&at_the_limit).all(|n| *n == 0);
+        let left = groups.values().map(|group| &group.left);
+        let all = left.chain(&at_the_limit).all(|n| *n == 0);
         if all || index > 100 * count as u64 + 100_000 {
             break;
         }
         let (_, file) = generator.file(seed, index);
         let reading = model::read(&file, [usize::MAX; 9]);
-        let number = reading.end.err().unwrap_or(0) as usize;
+        let number = reading.end.err().unwrap_or(0);
         let used = reading.rows.used();
         // Room is left for the rows that other sizes add.
         if used
@@ -269,27 +299,23 @@ fn loads(store: &mut Store, seed: u64, count: usize, counts: &mut Counts) -> Res
         }
         let limit = match (number, used[0]) {
             (0, 1_024) => Some(0),
-            (14, _) => Some(1),
+            (NO_ROW, _) => Some(1),
             _ => None,
         };
+        let group = groups.get_mut(&number).ok_or("no load answers so")?;
         let left = match limit {
             Some(side) => &mut at_the_limit[side],
-            None if number != 1 && file.len() > LONGEST => continue,
-            None => &mut left[number],
+            None if !is_stored(number, &file) => continue,
+            None => &mut group.left,
         };
         if *left == 0 {
             continue;
         }
         *left -= 1;
-        one_file(
-            &mut groups[number],
-            &file,
-            &mut Rng::new(!seed, index),
-            counts,
-        )?;
+        one_file(&mut group.store, &file, &mut Rng::new(!seed, index), counts)?;
     }
-    for (number, group) in groups.iter().enumerate() {
-        store.bytes.extend(&group.bytes);
+    for (number, group) in groups {
+        store.bytes.extend(&group.store.bytes);
         let name = match number {
             0 => "generated files that load".to_owned(),
             n => format!("generated files of {n}"),
@@ -297,6 +323,36 @@ fn loads(store: &mut Store, seed: u64, count: usize, counts: &mut Counts) -> Res
         store.bytes(6, name.as_bytes());
     }
     Ok(())
+}
+
+/// Whether a generated file away from the limit of records is stored: a short one, or one a byte too long that meets 27 but for that.
+fn is_stored(number: Refusal, file: &[u8]) -> bool {
+    if number == TOO_LONG {
+        return file.len() == FILE_LIMIT + 1 && !file.starts_with(b"RITE");
+    }
+    file.len() <= LONGEST
+}
+
+/// The stored files of one answer, and how many of them are still to come.
+struct Group {
+    store: Store,
+    left: usize,
+}
+
+impl Group {
+    /// A group without files yet, of so many in all groups.
+    fn of(number: Refusal, count: usize) -> Group {
+        let refused = count * 3 / 5;
+        let left = match number {
+            0 => count - refused,
+            // Files of these two need many bytes.
+            TOO_LONG => 1,
+            NO_ROW => 0,
+            _ => refused / (ANSWERS.len() - 2) + 1,
+        };
+        let store = Store::default();
+        Group { store, left }
+    }
 }
 
 /// A file over tables that fit it, over longer ones, and over any.
@@ -310,8 +366,7 @@ fn one_file(
     // What is stored does not depend on how many subjects there are.
     let mut other = Rng::new(rng.next(), 0);
     let number = one(&subjects, file, &mut other, counts)?;
-    let called = ![1, 6, 8, 14].contains(&number);
-    let outcome = called.then(|| oracle::load(file));
+    let outcome = oracle::load_of(number, file);
     let needed = model::read(file, [usize::MAX; 9]).rows.used();
     let mut lent = vec![Sizes::of_rows(needed)];
     if rng.one_in(2) {

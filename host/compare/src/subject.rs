@@ -1,4 +1,4 @@
-//! What is held against the original: paper 01's model and, where it is linked, the port.
+//! What is held against the original: the papers' model and, where it is linked, the port.
 
 use model::{Constant, Entry, FoundText, NAMES, Refusal, Sizes, Tables};
 
@@ -108,7 +108,7 @@ pub trait Subject {
     fn line_at(&self, map: &[u32], position: u32) -> Option<u32>;
 }
 
-/// Paper 01's model.
+/// The papers' model.
 pub struct Model;
 
 impl Subject for Model {

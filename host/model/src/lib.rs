@@ -1,6 +1,6 @@
-//! Paper 01 as plain Rust: slow, readable, without any `unsafe`. Opcode names and operand kinds are those of insn.rs.
+//! Paper 01 and request g) of paper 02 as plain Rust: slow, readable, without any `unsafe`. Opcode names and operand kinds are those of insn.rs.
 //!
-//! Comments in quotation marks are the paper's own words.
+//! Comments in quotation marks are the papers' own words.
 //! A refusal is its number; 0 stands for none where a number is answered.
 
 #![forbid(unsafe_code)]
@@ -32,6 +32,9 @@ pub type Refusal = u32;
 
 /// The longest file, in bytes.
 pub const FILE_LIMIT: usize = 65_536;
+
+/// The bytes of the file header.
+pub const HEADER: usize = 20;
 
 /// The largest number of records.
 pub const RECORD_LIMIT: usize = 1_024;

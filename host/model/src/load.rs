@@ -4,7 +4,7 @@ use crate::line::packed;
 use crate::rows::{
     DebugFile, Entry, Handler, Loaded, Name, PoolRow, Record, Rows, Sizes, Span, Text,
 };
-use crate::{FILE_LIMIT, Refusal, UNNAMED};
+use crate::{FILE_LIMIT, HEADER, Refusal, UNNAMED};
 
 /// What was read, and how the reading ended.
 #[derive(Debug, Clone)]
@@ -82,6 +82,32 @@ fn high_first(bytes: &[u8]) -> u32 {
     bytes.iter().fold(0, |n, b| n * 256 + u32::from(*b))
 }
 
+/// "1 to 4 are tested in order", and between 2 and 3 the two numbers of paper 02.
+fn header_is_good(file: &[u8]) -> Result<(), Refusal> {
+    if file.len() > FILE_LIMIT {
+        return Err(1);
+    }
+    if file.len() < HEADER {
+        return Err(2);
+    }
+    // "27 when the first four bytes are not ASCII RITE, after 2."
+    if file[..4] != *b"RITE" {
+        return Err(27);
+    }
+    // "28 when the header's size exceeds the file's length, after 27."
+    if high_first(&file[8..12]) as usize > file.len() {
+        return Err(28);
+    }
+    // "3: major is not ASCII 04"
+    if file[4..6] != *b"04" {
+        return Err(3);
+    }
+    if file.len() < 32 {
+        return Err(4);
+    }
+    Ok(())
+}
+
 /// Which sections have begun.
 #[derive(Default)]
 struct Begun {
@@ -91,21 +117,9 @@ struct Begun {
 }
 
 fn read_file(file: &[u8], rows: &mut Rows) -> Result<(), Refusal> {
-    if file.len() > FILE_LIMIT {
-        return Err(1);
-    }
-    if file.len() < 20 {
-        return Err(2);
-    }
-    // "Only major is looked at."
-    if file[4..6] != *b"04" {
-        return Err(3);
-    }
-    if file.len() < 32 {
-        return Err(4);
-    }
+    header_is_good(file)?;
     let mut begun = Begun::default();
-    let mut start = 20;
+    let mut start = HEADER;
     // "Sections follow until fewer than 4 bytes are left; those are ignored."
     while file.len() - start >= 4 {
         let size = match &file[start..start + 4] {

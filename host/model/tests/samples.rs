@@ -1,4 +1,4 @@
-//! Paper 01's samples, and the boundaries between its refusals.
+//! The papers' samples, and the boundaries between their refusals.
 
 use model::*;
 
@@ -17,6 +17,18 @@ fn be4(n: usize) -> [u8; 4] {
 
 fn header(size: usize) -> Vec<u8> {
     [&b"RITE0400"[..], &be4(size), &[0; 8]].concat()
+}
+
+/// The file with other bytes at a place.
+fn changed(file: &[u8], at: usize, bytes: &[u8]) -> Vec<u8> {
+    let mut file = file.to_vec();
+    file[at..at + bytes.len()].copy_from_slice(bytes);
+    file
+}
+
+/// The file with another size in its header.
+fn sized(file: &[u8], size: usize) -> Vec<u8> {
+    changed(file, 8, &be4(size))
 }
 
 /// A record with exact size: nlocals, nregs, rlen, code, handlers, pool, symbols.
@@ -137,7 +149,7 @@ fn bytes_behind_the_sections() {
 
 #[test]
 fn no_record() {
-    let mut short = file_a()[..20].to_vec();
+    let mut short = sized(&file_a()[..20], 31);
     short.extend(b"END\0\0\0\0\x0c\0\0\0\0");
     assert_eq!(short.len(), 32);
     assert_eq!(refusal(&short), 0);
@@ -145,6 +157,7 @@ fn no_record() {
     assert_eq!(examined(&short), 15);
     assert_eq!(follow(&short, &enough(), 0, &[]).loaded.refusal, 15);
     assert_eq!(refusal(&short[..31]), 4);
+    assert_eq!(refusal(&sized(&short[..31], 32)), 28);
     short[27] = 0;
     assert_eq!(refusal(&short), 8);
 }
@@ -284,17 +297,76 @@ fn handlers_and_maps_that_do_not_pass() {
 }
 
 #[test]
+fn idents() {
+    let a = file_a();
+    for (at, letter) in b"RITE".iter().enumerate() {
+        for other in [letter ^ 32, letter + 1, letter + 128, 0] {
+            assert_eq!(refusal(&changed(&a, at, &[other])), 27, "{other} at {at}");
+        }
+    }
+    for other in [b"ETIR", b"\x89PNG", b"%PDF", b"04RI"] {
+        let drawing = changed(&a, 0, other);
+        assert_eq!(refusal(&drawing), 27, "{other:?}");
+        assert_eq!(examined(&drawing), 27, "{other:?}");
+        assert_eq!(follow(&drawing, &enough(), 0, &[5]).loaded.refusal, 27);
+    }
+}
+
+#[test]
+fn sizes_in_the_file_header() {
+    let a = file_a();
+    for size in [0, 1, 63, 64] {
+        assert_eq!(refusal(&sized(&a, size)), 0, "{size}");
+    }
+    let low_first = 64 << 24;
+    for size in [65, 66, 64 + 256, 64 + 65_536, low_first, 1 << 31] {
+        assert_eq!(refusal(&sized(&a, size)), 28, "{size}");
+    }
+    assert_eq!(refusal(&changed(&a, 8, &[255; 4])), 28);
+    let longer = [a, vec![0; 3]].concat();
+    assert_eq!(refusal(&sized(&longer, 67)), 0);
+    assert_eq!(refusal(&sized(&longer, 68)), 28);
+}
+
+#[test]
 fn order_of_the_first_refusals() {
+    let ident = (0, &b"RITF"[..]);
+    let size = (8, &[255; 4][..]);
+    let major = (4, &b"03"[..]);
+    for (length, changes, number) in [
+        (65_537, &[ident, size, major][..], 1),
+        (65_537, &[], 1),
+        (65_536, &[ident, size, major], 27),
+        (65_536, &[size, major], 28),
+        (65_536, &[], 5),
+        (19, &[ident, size, major], 2),
+        (19, &[], 2),
+        (20, &[ident, size, major], 27),
+        (20, &[ident, size], 27),
+        (20, &[ident, major], 27),
+        (20, &[ident], 27),
+        (31, &[ident], 27),
+        (20, &[size, major], 28),
+        (20, &[size], 28),
+        (31, &[size], 28),
+        (32, &[size, major], 28),
+        (20, &[major], 3),
+        (31, &[major], 3),
+        (32, &[major], 3),
+        (20, &[], 4),
+        (31, &[], 4),
+        (32, &[], 5),
+    ] {
+        let mut file = header(0);
+        for (at, bytes) in changes {
+            file = changed(&file, *at, bytes);
+        }
+        file.resize(length, 1);
+        assert_eq!(refusal(&file), number, "{length} {changes:?}");
+    }
     assert_eq!(refusal(&[]), 2);
-    assert_eq!(refusal(&vec![0; 65_537]), 1);
-    assert_eq!(refusal(&[0; 19]), 2);
-    assert_eq!(refusal(&[0; 20]), 3);
-    assert_eq!(refusal(&header(0)), 4);
-    assert_eq!(refusal(&[header(0), vec![1; 11]].concat()), 4);
-    assert_eq!(refusal(&[header(0), vec![1; 12]].concat()), 5);
-    let mut other = header(0);
-    other[5] = b'3';
-    assert_eq!(refusal(&other), 3);
+    assert_eq!(refusal(&sized(&header(0), 20)), 4);
+    assert_eq!(refusal(&sized(&header(0), 21)), 28);
 }
 
 #[test]
@@ -480,13 +552,14 @@ fn lent_tables() {
 #[test]
 fn cuts_are_refused() {
     let file = full();
-    for length in 0..file.len() - 8 {
-        let number = refusal(&file[..length]);
-        let expected = match length {
-            0..20 => 2,
-            20..32 => 4,
-            _ => 7,
-        };
+    for length in 0..20 {
+        assert_eq!(refusal(&file[..length]), 2);
+    }
+    for length in 20..file.len() - 8 {
+        let cut = &file[..length];
+        assert_eq!(refusal(cut), 28);
+        let number = refusal(&sized(cut, length));
+        let expected = if length < 32 { 4 } else { 7 };
         // A cut up to three bytes behind a section loads.
         assert!(number == expected || number == 0, "{length}: {number}");
     }
@@ -690,8 +763,8 @@ fn the_1025th_record_has_no_row() {
     let with = |count: usize| file(&[irep(&vec![record.clone(); count])]);
     assert_eq!(load(&with(1024), &lent).refusal, 0);
     assert_eq!(load(&with(1025), &lent).refusal, 14);
-    let cut = &with(1025)[..20 + 12 + 1024 * 20 + 15];
-    let mut cut = cut.to_vec();
-    cut[24..28].copy_from_slice(&be4(12 + 1024 * 20 + 15));
+    let section = 12 + 1024 * 20 + 15;
+    let cut = sized(&with(1025)[..20 + section], 20 + section);
+    let cut = changed(&cut, 24, &be4(section));
     assert_eq!(load(&cut, &lent).refusal, 7);
 }

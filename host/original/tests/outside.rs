@@ -1,4 +1,4 @@
-//! What the original does where paper 01 leaves it: refusals 1, 6, 13 and 14, and fetch above 118.
+//! What the original does where the papers leave it: refusals 1, 6, 13, 14, 27 and 28, and fetch above 118.
 
 use original::rite::insn::FETCH_TABLE;
 use original::rite::rite::{Rite, load};
@@ -41,6 +41,14 @@ fn file(sections: &[Vec<u8>]) -> Vec<u8> {
 
 fn loaded(file: &[u8]) -> Rite<'_> {
     load(file).expect("the original loads this file")
+}
+
+#[test]
+fn ident_and_size_are_not_looked_at() {
+    let mut other = file(&[irep(&[record(1)])]);
+    other[..4].copy_from_slice(b"\x89PNG");
+    other[8..12].copy_from_slice(&[255; 4]);
+    assert_eq!(loaded(&other).irep.len(), 1);
 }
 
 #[test]
