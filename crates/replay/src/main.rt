@@ -1,4 +1,4 @@
-// Replays stored answers of load, examination and follow, paper 01's samples first. Answers are compared as the structs of the C boundary.
+// Replays stored answers of load, examination and follow, the papers' samples first. Answers are compared as the structs of the C boundary.
 use boundary::BlotheathFollowed;
 use boundary::BlotheathLoaded;
 use libc::STDIN_FILENO;
