@@ -12,15 +12,15 @@ use lib.Dec.{T, leb, eqb, leb·zero, leb→le, le→leb, nleb→lt, eqb→eq, T-
 use lib.Ieee.Fits.{and-l, and-r}
 use lib.ListN.{length, getD, take, drop, length-drop}
 use lib.Seq.{getD-drop, drop-drop}
-use borrow.Author.Tests.{lt-leb, eqb-true, eqb-false, eq-eqb, ne-eqb}
+use borrow.Author.Tests.{lt-leb, ne-eqb}
 use Rattle.format.specs.Bytes.{Answer, ok, refused, onAnswer, refuse, first, has, fourAre}
 use Rattle.format.specs.Headers.{riteIdent}
 use Rattle.format.specs.Reading.{Part, part}
 use Rattle.format.specs.File.{Content, nothing, sectionAt, sections, identIsRite, statedSize, majorIs04, fileRefusal, fileReading}
 use Rattle.format.specs.Load.{Nine, tablesOf, used, fits, ending, loading, laid, load}
 use Rattle.format.specs.Exam.{FilePasses}
-use Rattle.format.proofs.Answers.{ok-refused, refused-same, Refuses, weaker, answered, tested}
-use Rattle.format.proofs.File.{Accepted, accepted}
+use Rattle.format.proofs.Answers.{refused-same, Refuses, answered, tested}
+use Rattle.format.proofs.File.{accepted}
 use Rattle.layout.proofs.Ends.{reading-accepted}
 use Rattle.layout.proofs.Inside.{loading-reading}
 use Rattle.laws.proofs.Numbers.{oneOf, Among, sectionNumbers, further}
