@@ -2,14 +2,14 @@
 -- Assumes nothing.
 use Prim.Native.Nat.{ℕ, zero, suc, _+_, _-_, _≤_, _<_}
 use native.Mathlib.Omega.{arith}
-use mathlib.Core.Path.{_≡_, refl}
-use mathlib.Core.Bool.{Bool, true, false, _||_, cond}
+use mathlib.Core.Path.{_≡_}
+use mathlib.Core.Bool.{Bool, false, _||_, cond}
 use mathlib.Core.List.{List, [], _∷_}
 use mathlib.Core.Option.{Option, none, some}
 use lib.Dec.{leb, ltb, eqb}
 use lib.ListN.{length, take, drop}
 use borrow.Author.Tests.{leb-true, leb-false, ltb-false, eqb-false}
-use Rattle.format.specs.Bytes.{Answer, ok, refused, refuse, first, Step, has, byte, u16At, u32At}
+use Rattle.format.specs.Bytes.{Answer, ok, refused, Step, has, byte, u16At, u32At}
 use Rattle.format.specs.Headers as mark
 use Rattle.format.specs.Reading.{Read, Part, andThen, more, inTurn}
 use Rattle.format.specs.Rows.{LineRow}
@@ -18,10 +18,10 @@ use Rattle.format.specs.Walk.{walk}
 use Rattle.format.specs.Lvar.{noZero, plainText, nameEntry, recordNames, Lvar, lvarSection}
 use Rattle.format.specs.Packed.{packedFrom, packed, packedEntry, keeps}
 use Rattle.format.specs.Debug.{above, fileHead, mapEntry, after, goesOn, mapLines, fileLines, filesFrom, debugRecord, Debug, debugContent, debugSection}
-use Rattle.format.specs.File.{Content, nothing, content, isMark, endSection, once, afterIrep, sectionAt, sections, identIsRite, statedSize, majorIs04}
-use Rattle.format.specs.File.{fileRefusal, fileReading}
+use Rattle.format.specs.File.{Content, nothing, content, isMark, endSection, once, afterIrep, sectionAt, sections, fileRefusal, fileReading}
 use Rattle.format.proofs.Answers.{either, Holds, weaker, answered, tested, chained}
 use Rattle.laws.proofs.Numbers.{Among, testNumbers, sectionNumbers, readingNumbers, further}
+use Rattle.laws.proofs.Tests.{tests-among}
 
 -- with a value of which P holds, or by a number of sections
 abbrev pub Ends : {A : Type 0} → (A → Type 0) → Answer A → Type 0
@@ -313,29 +313,10 @@ module _ (f : List ℕ) where
       (λ _. answered _ _ P (s .end) _ _ (section-sized c at) (λ size k. sections-end n (s .it) (at + size) (omega arith)) (λ _ r. r))
       (λ e. let k = leb-false 4 (length f - at) e in omega arith)
 
-  -- a file's tests refuse by their numbers alone
-  tests-among : ¬ (fileRefusal f ≡ 0) → Among testNumbers (fileRefusal f)
-  unfolding fileRefusal
-  tests-among = by-tests (leb n 65536) (leb 20 n) (identIsRite f) (leb (statedSize f) n) (majorIs04 f) (leb 32 n)
-    where
-      n : ℕ
-      n = length f
-
-      by-tests : (a b c d g h : Bool)
-          → let k = first (refuse 1 a) (first (refuse 2 b) (first (refuse 27 c) (first (refuse 28 d) (first (refuse 3 g) (refuse 4 h))))) in
-          ¬ (k ≡ 0) → Among testNumbers k
-      by-tests false b c d g h z = tt
-      by-tests true false c d g h z = tt
-      by-tests true true false d g h z = tt
-      by-tests true true true false g h z = tt
-      by-tests true true true true false h z = tt
-      by-tests true true true true true false z = tt
-      by-tests true true true true true true z = absurd (z refl)
-
   pub reading-ends : Holds Left (Among readingNumbers) (fileReading f .end)
   unfolding fileReading
   reading-ends =
       let P : Part Content → Type 0 = λ x. Holds Left (Among readingNumbers) (x .end) in
       either P (eqb (fileRefusal f) 0) _ _
       (λ _. weaker _ _ _ (sections f (length f) nothing 20 .end) (sections-end (length f) nothing 20 (omega arith)) (further sectionNumbers readingNumbers tt))
-      (λ z. further testNumbers readingNumbers tt (fileRefusal f) (tests-among (eqb-false (fileRefusal f) 0 z)))
+      (λ z. further testNumbers readingNumbers tt (fileRefusal f) (tests-among f (eqb-false (fileRefusal f) 0 z)))

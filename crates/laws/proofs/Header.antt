@@ -9,22 +9,24 @@ use mathlib.Core.Logic.{_↔_}
 use mathlib.Core.Bool.{Bool, true, false, not, cond, _&&_}
 use mathlib.Core.List.{List, [], _∷_}
 use lib.Dec.{T, leb, eqb, leb·zero, leb→le, le→leb, nleb→lt, eqb→eq, T-not, not-T}
-use lib.Ieee.Fits.{and-l, and-r}
+use lib.Ieee.Fits.{and-i, and-l, and-r}
 use lib.ListN.{length, getD, take, drop, length-drop}
 use lib.Seq.{getD-drop, drop-drop}
-use borrow.Author.Tests.{lt-leb, ne-eqb}
-use Rattle.format.specs.Bytes.{Answer, ok, refused, onAnswer, refuse, first, has, fourAre}
+use borrow.Author.Tests.{ne-eqb}
+use Rattle.format.specs.Bytes.{Answer, ok, refused, onAnswer, has, fourAre}
 use Rattle.format.specs.Headers.{riteIdent}
 use Rattle.format.specs.Reading.{Part, part}
 use Rattle.format.specs.File.{Content, nothing, sectionAt, sections, identIsRite, statedSize, majorIs04, fileRefusal, fileReading}
-use Rattle.format.specs.Load.{Nine, tablesOf, used, fits, ending, loading, laid, load}
+use Rattle.format.specs.Load.{Nine, tablesOf, used, fits, ending, loading, load}
 use Rattle.format.specs.Exam.{FilePasses}
 use Rattle.format.proofs.Answers.{refused-same, Refuses, answered, tested}
 use Rattle.format.proofs.File.{accepted}
 use Rattle.layout.proofs.Ends.{reading-accepted}
 use Rattle.layout.proofs.Inside.{loading-reading}
 use Rattle.laws.proofs.Numbers.{oneOf, Among, sectionNumbers, further}
+use Rattle.laws.proofs.Tests.{without, tests-are, number-iff}
 use Rattle.laws.proofs.Endings.{sections-end}
+use Rattle.laws.proofs.Refusals.{laid-refuses}
 
 -- "the first four bytes are .. ASCII RITE", as the bytes and as the test
 pub rite-iff : (f : List ℕ) → 4 ≤ length f → (take 4 f ≡ riteIdent) ↔ T (identIsRite f)
@@ -43,45 +45,6 @@ rite-iff (a ∷ b ∷ c ∷ d ∷ r) h = (λ e. subst (λ (l : List ℕ). T (fou
         let t2 = and-l (p && q) s t3 in
         rw (eqb→eq a 82 (and-l p q t2), eqb→eq b 73 (and-r p q t2), eqb→eq c 84 (and-r (p && q) s t3), eqb→eq d 69 (and-r (p && q && s) (eqb d 69) t))
 
--- a file's tests by their outcomes
-abbrev outcome : Bool → Bool → Bool → Bool → Bool → Bool → ℕ
-outcome a b c d g h = first (refuse 1 a) (first (refuse 2 b) (first (refuse 27 c) (first (refuse 28 d) (first (refuse 3 g) (refuse 4 h)))))
-
-by-27 : (a b c d g h : Bool) → outcome a b c d g h ≡ 27 → T a × T b × T (not c)
-by-27 false b c d g h e = absurd (omega arith)
-by-27 true false c d g h e = absurd (omega arith)
-by-27 true true false d g h e = (tt, tt, tt)
-by-27 true true true false g h e = absurd (omega arith)
-by-27 true true true true false h e = absurd (omega arith)
-by-27 true true true true true false e = absurd (omega arith)
-by-27 true true true true true true e = absurd (omega arith)
-
-by-28 : (a b c d g h : Bool) → outcome a b c d g h ≡ 28 → T a × T b × T c × T (not d)
-by-28 false b c d g h e = absurd (omega arith)
-by-28 true false c d g h e = absurd (omega arith)
-by-28 true true false d g h e = absurd (omega arith)
-by-28 true true true false g h e = (tt, tt, tt, tt)
-by-28 true true true true false h e = absurd (omega arith)
-by-28 true true true true true false e = absurd (omega arith)
-by-28 true true true true true true e = absurd (omega arith)
-
-by-neither : (a b c d g h : Bool) → let k = outcome a b c d g h in
-    ¬ (k ≡ 27) → ¬ (k ≡ 28) → k ≡ first (refuse 1 a) (first (refuse 2 b) (first (refuse 3 g) (refuse 4 h)))
-by-neither false b c d g h x y = refl
-by-neither true false c d g h x y = refl
-by-neither true true false d g h x y = absurd (x refl)
-by-neither true true true false g h x y = absurd (y refl)
-by-neither true true true true g h x y = refl
-
--- a test that passes, and one that does not
-passed : (b : Bool) → T b → b ≡ true
-passed true t = refl
-passed false t = absurd t
-
-failed : (b : Bool) → T (not b) → b ≡ false
-failed true t = absurd t
-failed false t = refl
-
 module _ (f : List ℕ) where
   abbrev n : ℕ
   n = length f
@@ -98,56 +61,74 @@ module _ (f : List ℕ) where
     pub rite : take 4 f ≡ riteIdent
     pub beyond : n < statedSize f
 
+  -- the tests before 27
+  abbrev in-range : Bool
+  in-range = leb n 65536 && leb 20 n
+
+  in-range-iff : T in-range ↔ ((n ≤ 65536) × (20 ≤ n))
+  in-range-iff = (
+    λ t. (leb→le n 65536 (and-l (leb n 65536) (leb 20 n) t), leb→le 20 n (and-r (leb n 65536) (leb 20 n) t)),
+    λ x. and-i (leb n 65536) (leb 20 n) (le→leb n 65536 (x .0)) (le→leb 20 n (x .1)),
+  )
+
   tests-27 : fileRefusal f ≡ 27 ↔ OtherIdent
-  unfolding fileRefusal
-  tests-27 = (there, back)
+  tests-27 = (λ e. there (met .0 e), λ x. met .1 (back x))
     where
-      there : fileRefusal f ≡ 27 → OtherIdent
-      there e =
-          let x = by-27 (leb n 65536) (leb 20 n) (identIsRite f) (leb (statedSize f) n) (majorIs04 f) (leb 32 n) e in
-          let h = leb→le 20 n (x .1) in
+      rite : Bool
+      rite = identIsRite f
+
+      met : (fileRefusal f ≡ 27) ↔ T (in-range && not rite)
+      met = number-iff (fileRefusal f) 27 _ (tests-are f .at-27)
+
+      there : T (in-range && not rite) → OtherIdent
+      there t =
+          let p = in-range-iff .0 (and-l in-range (not rite) t) in
+          let h = p .1 in
           record {
-            small = leb→le n 65536 (x .0);
+            small = p .0;
             headed = h;
-            other = λ q. T-not (identIsRite f) (x .2) (rite-iff f (omega arith) .0 q);
+            other = λ q. T-not rite (and-r in-range (not rite) t) (rite-iff f (omega arith) .0 q);
           }
 
-      back : OtherIdent → fileRefusal f ≡ 27
+      back : OtherIdent → T (in-range && not rite)
       back x =
           let h = x .headed in
-          let i = failed (identIsRite f) (not-T (identIsRite f) (λ t. x .other (rite-iff f (omega arith) .1 t))) in
-          rw (passed (leb n 65536) (le→leb n 65536 (x .small)), passed (leb 20 n) (le→leb 20 n h), i)
+          and-i in-range (not rite) (in-range-iff .1 (x .small, h)) (not-T rite (λ t. x .other (rite-iff f (omega arith) .1 t)))
 
   tests-28 : fileRefusal f ≡ 28 ↔ SizeBeyond
-  unfolding fileRefusal
-  tests-28 = (there, back)
+  tests-28 = (λ e. there (met .0 e), λ x. met .1 (back x))
     where
-      there : fileRefusal f ≡ 28 → SizeBeyond
-      there e =
-          let x = by-28 (leb n 65536) (leb 20 n) (identIsRite f) (leb (statedSize f) n) (majorIs04 f) (leb 32 n) e in
-          let h = leb→le 20 n (x .1) in
+      rite : Bool
+      rite = identIsRite f
+
+      sized : Bool
+      sized = leb (statedSize f) n
+
+      met : (fileRefusal f ≡ 28) ↔ T (in-range && rite && not sized)
+      met = number-iff (fileRefusal f) 28 _ (tests-are f .at-28)
+
+      there : T (in-range && rite && not sized) → SizeBeyond
+      there t =
+          let s = and-l (in-range && rite) (not sized) t in
+          let p = in-range-iff .0 (and-l in-range rite s) in
+          let h = p .1 in
           record {
-            small = leb→le n 65536 (x .0);
+            small = p .0;
             headed = h;
-            rite = rite-iff f (omega arith) .1 (x .2);
-            beyond = nleb→lt (statedSize f) n (x .3);
+            rite = rite-iff f (omega arith) .1 (and-r in-range rite s);
+            beyond = nleb→lt (statedSize f) n (and-r (in-range && rite) (not sized) t);
           }
 
-      back : SizeBeyond → fileRefusal f ≡ 28
+      back : SizeBeyond → T (in-range && rite && not sized)
       back x =
           let h = x .headed in
-          rw (
-            passed (leb n 65536) (le→leb n 65536 (x .small)),
-            passed (leb 20 n) (le→leb 20 n h),
-            passed (identIsRite f) (rite-iff f (omega arith) .0 (x .rite)),
-            lt-leb (statedSize f) n (x .beyond),
-          )
+          let b = x .beyond in
+          and-i (in-range && rite) (not sized) (and-i in-range rite (in-range-iff .1 (x .small, h)) (rite-iff f (omega arith) .0 (x .rite)))
+          (not-T sized (λ t. let k = leb→le (statedSize f) n t in omega arith))
 
   -- a file that meets neither is tested as paper 01 tests it: "Equality with the Rust leaves out 27 and 28."
-  pub tests-else : ¬ (fileRefusal f ≡ 27) → ¬ (fileRefusal f ≡ 28)
-      → fileRefusal f ≡ first (refuse 1 (leb n 65536)) (first (refuse 2 (leb 20 n)) (first (refuse 3 (majorIs04 f)) (refuse 4 (leb 32 n))))
-  unfolding fileRefusal
-  tests-else = by-neither (leb n 65536) (leb 20 n) (identIsRite f) (leb (statedSize f) n) (majorIs04 f) (leb 32 n)
+  pub tests-else : ¬ (fileRefusal f ≡ 27) → ¬ (fileRefusal f ≡ 28) → fileRefusal f ≡ without (leb n 65536) (leb 20 n) (majorIs04 f) (leb 32 n)
+  tests-else x y = sym (rw (ne-eqb (fileRefusal f) 27 x, ne-eqb (fileRefusal f) 28 y) at (tests-are f .else))
 
   module _ (m : Nine) where
     -- nothing that was read needs no row
@@ -186,14 +167,10 @@ module _ (f : List ℕ) where
     unfolding load
     load-tested e t q = by-tests (fileRefusal f) refl
       where
-        laid-refuses : (R : ℕ → Type 0) (a : Answer Content) → Refuses R a → Refuses R (laid m a .answer)
-        laid-refuses R (ok c) r = tt
-        laid-refuses R (refused k) r = r
-
         by-tests : (k : ℕ) → fileRefusal f ≡ k → fileRefusal f ≡ e
         by-tests zero z =
             let R : ℕ → Type 0 = Among (14 ∷ sectionNumbers) in
-            absurd (T-not (oneOf (14 ∷ sectionNumbers) e) t (subst (Refuses R) q (laid-refuses R (loading f m) (sections-refuse z))))
+            absurd (T-not (oneOf (14 ∷ sectionNumbers) e) t (subst (Refuses R) q (laid-refuses m R (loading f m) (sections-refuse z))))
         by-tests (suc k) z = z ∙ refused-same (sym (tested-load k z) ∙ q)
 
     -- "27 when the first four bytes are not ASCII RITE, after 2."

@@ -5,6 +5,7 @@ pub mod Audit
 pub mod Exact
 pub mod Demand3
 pub mod Numbers
+pub mod Tests
 pub mod Endings
 pub mod Counts
 pub mod Refusals

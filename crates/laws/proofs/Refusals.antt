@@ -57,7 +57,7 @@ laid-zero : (m : Nine) (e : ℕ) (a : Answer Content) → laid m a .answer ≡ r
 laid-zero m e (ok c) q = absurd (ok-refused (sym q))
 laid-zero m e (refused k) q = zero-words m
 
-laid-refuses : (m : Nine) (R : ℕ → Type 0) (a : Answer Content) → Refuses R a → Refuses R (laid m a .answer)
+pub laid-refuses : (m : Nine) (R : ℕ → Type 0) (a : Answer Content) → Refuses R a → Refuses R (laid m a .answer)
 laid-refuses m R (ok c) r = tt
 laid-refuses m R (refused e) r = r
 

@@ -8,7 +8,7 @@ ghost use mathlib.Core.List.{[], _∷_};
 ghost use Prim.Native.Nat.{_+_, _≤_};
 ghost use lib.ListN.{length};
 ghost use Rattle.format.specs.Bytes.{fourAre, twoAre};
-ghost use Rattle.format.specs.Headers.{riteIdent, major04};
+ghost use Rattle.format.specs.Headers.{major04};
 ghost use Rattle.format.specs.File.{endSection, fileRefusal};
 ghost use Rattle.marks.specs.Answers.{sizeOf};
 ghost use Rattle.marks.specs.Marks.{markOf};
@@ -29,7 +29,7 @@ pub enum Mark {
 }
 
 // Whether the four bytes at a place are these.
-fn is_mark(f: &[u8], at: usize, a: u8, b: u8, c: u8, d: u8) -> bool
+fn four_are(f: &[u8], at: usize, a: u8, b: u8, c: u8, d: u8) -> bool
     requires { ⌜ at + 4 ≤ length (now f) ⌝ }
     ensures { λ r. ⌜ r ≡ fourAre (now (f .entry)) at (a ∷ b ∷ c ∷ d ∷ []) ⌝ }
 {
@@ -50,16 +50,16 @@ pub fn peek4(f: &[u8], at: usize) -> Mark
     requires { ⌜ at + 4 ≤ length (now f) ⌝ }
     ensures { λ r. ⌜ r ≡ markOf (now (f .entry)) at ⌝ }
 {
-    if is_mark(f, at, b'I', b'R', b'E', b'P') {
+    if four_are(f, at, b'I', b'R', b'E', b'P') {
         return Mark::Irep;
     }
-    if is_mark(f, at, b'L', b'V', b'A', b'R') {
+    if four_are(f, at, b'L', b'V', b'A', b'R') {
         return Mark::Lvar;
     }
-    if is_mark(f, at, b'D', b'B', b'G', 0) {
+    if four_are(f, at, b'D', b'B', b'G', 0) {
         return Mark::Dbg;
     }
-    if is_mark(f, at, b'E', b'N', b'D', 0) {
+    if four_are(f, at, b'E', b'N', b'D', 0) {
         return Mark::End;
     }
     Mark::Unknown
@@ -79,22 +79,6 @@ pub fn section_end(f: &[u8]) -> Size
         return Size::Refused(7);
     }
     Size::Stated(size)
-}
-
-// Whether an ident is that of a pattern file.
-fn is_rite(ident: [u8; 4]) -> bool
-    ensures { λ r. ⌜ r ≡ fourAre ident 0 riteIdent ⌝ }
-{
-    if ident[0] != b'R' {
-        return false;
-    }
-    if ident[1] != b'I' {
-        return false;
-    }
-    if ident[2] != b'T' {
-        return false;
-    }
-    ident[3] == b'E'
 }
 
 // Whether a major version is the one that is read.
@@ -120,7 +104,7 @@ pub fn file_refusal(f: &[u8]) -> u8
     }
     let header = h.header;
     let ident = header.ident;
-    let rite = is_rite(ident);
+    let rite = four_are(&ident, 0, b'R', b'I', b'T', b'E');
     let size = header.size;
     let stated = be32_to_u32(size) as usize;
     let major = header.major_version;

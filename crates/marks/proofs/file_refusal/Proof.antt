@@ -1,9 +1,20 @@
 -- `marks::file_refusal` meets its contract.
 -- Assumes nothing.
+use mathlib.Core.Path.{_≡_}
+use native.Mathlib.Omega.{arith}
+use lib.Dec.{leb}
+use lib.ListN.{length}
 use borrow.Author.Tests.{lt-leb, le-leb, not-true, not-false}
+use Rattle.format.specs.Bytes.{refuse, first}
 use Rattle.format.specs.File.{fileRefusal}
-use Rattle.marks.proofs.Laws.{file-short, tests}
+use Rattle.marks.proofs.Laws.{file-short, file-there, tests}
 use borrow.Author.Needs.{needs}
+use Rattle.binfmt.proofs.be32_to_u32.Reads as be32-to-u32-reads
+use Rattle.headers.proofs.RiteBinaryHeader.from_bytes.Reads as from-bytes-reads
+use Rattle.marks.proofs.four_are.Reads as four-are-reads
+use Rattle.marks.proofs.is_04.Reads as is-04-reads
+use Rattle.marks.proofs.file_refusal.Reads as reads
+use Rattle.marks.proofs.file_refusal.Lts as lts
 use Rattle.marks.proofs.file_refusal.Statement.{statement}
 use Rattle.marks.proofs.file_refusal.Tie as tie
 
@@ -19,77 +30,77 @@ returns-2 c =
     let f = small .before .before .args .f .now in
     rw (le-leb _ _ (small .if1 .left), lt-leb _ _ (file-short f (read .from-bytes .result) (read .from-bytes .ensures) (c .if2 .taken)))
 
-returns-3 : tie.Need-returns-3
-returns-3 c =
-    let major = c .before in
+four-are-requires : tie.Need-four-are-requires
+four-are-requires c κs =
+    let there = c .before .before .before in
+    let read = there .before .before in
+    let f = read .before .before .before .args .f .now in
+    rw (file-there f (read .from-bytes .result) (read .from-bytes .ensures) (there .if2 .left) .ident) (omega arith)
+
+-- where the three fields that are tested have been read
+abbrev Fields : Type 0
+Fields =
+    lts.After-is-04 (
+      from-bytes-reads.Asked,
+      from-bytes-reads.Learnt,
+      four-are-reads.Asked,
+      four-are-reads.Learnt,
+      be32-to-u32-reads.Asked,
+      be32-to-u32-reads.Learnt,
+      is-04-reads.Asked,
+      is-04-reads.Learnt,
+    )
+    reads.Pre reads.Post
+
+-- the tests that are left there, by what was made of the fields
+left : (major : Fields)
+    → let size = major .before .before in
+    let ident = size .before .before in
+    let f = ident .before .before .before .before .before .before .before .before .before .args .f .now in
+    fileRefusal f
+    ≡ first (refuse 27 (ident .four-are .result))
+    (first (refuse 28 (leb (size .be32-to-u32 .result) (length f))) (first (refuse 3 (major .is-04 .result)) (refuse 4 (leb 32 (length f)))))
+left major =
     let size = major .before .before in
     let ident = size .before .before in
-    let there = ident .before .before .before in
+    let there = ident .before .before .before .before in
     let read = there .before .before in
     let small = read .before in
     let f = small .before .before .args .f .now in
-    let k =
-    tests f (read .from-bytes .result) (read .from-bytes .ensures) (small .if1 .left) (there .if2 .left) (ident .is-rite .result) (ident .is-rite .ensures)
-    (size .be32-to-u32 .result) (size .be32-to-u32 .ensures) (major .is-04 .result) (major .is-04 .ensures) in
-    rw (k, not-true (ident .is-rite .result) (c .if3 .taken))
+    tests f (read .from-bytes .result) (read .from-bytes .ensures) (small .if1 .left) (there .if2 .left) (ident .four-are .result) (ident .four-are .ensures)
+    (size .be32-to-u32 .result) (size .be32-to-u32 .ensures) (major .is-04 .result) (major .is-04 .ensures)
+
+returns-3 : tie.Need-returns-3
+returns-3 c =
+    let major = c .before in
+    let rite = major .before .before .before .before .four-are .result in
+    rw (left major, not-true rite (c .if3 .taken))
 
 returns-4 : tie.Need-returns-4
 returns-4 c =
     let major = c .before .before in
-    let size = major .before .before in
-    let ident = size .before .before in
-    let there = ident .before .before .before in
-    let read = there .before .before in
-    let small = read .before in
-    let f = small .before .before .args .f .now in
-    let k =
-    tests f (read .from-bytes .result) (read .from-bytes .ensures) (small .if1 .left) (there .if2 .left) (ident .is-rite .result) (ident .is-rite .ensures)
-    (size .be32-to-u32 .result) (size .be32-to-u32 .ensures) (major .is-04 .result) (major .is-04 .ensures) in
-    rw (k, not-false (ident .is-rite .result) (c .before .if3 .left), lt-leb _ _ (c .if4 .taken))
+    let rite = major .before .before .before .before .four-are .result in
+    rw (left major, not-false rite (c .before .if3 .left), lt-leb _ _ (c .if4 .taken))
 
 returns-5 : tie.Need-returns-5
 returns-5 c =
     let major = c .before .before .before in
-    let size = major .before .before in
-    let ident = size .before .before in
-    let there = ident .before .before .before in
-    let read = there .before .before in
-    let small = read .before in
-    let f = small .before .before .args .f .now in
-    let k =
-    tests f (read .from-bytes .result) (read .from-bytes .ensures) (small .if1 .left) (there .if2 .left) (ident .is-rite .result) (ident .is-rite .ensures)
-    (size .be32-to-u32 .result) (size .be32-to-u32 .ensures) (major .is-04 .result) (major .is-04 .ensures) in
-    rw (k, not-false (ident .is-rite .result) (c .before .before .if3 .left), le-leb _ _ (c .before .if4 .left), not-true (major .is-04 .result) (c .if5 .taken))
+    let rite = major .before .before .before .before .four-are .result in
+    rw (left major, not-false rite (c .before .before .if3 .left), le-leb _ _ (c .before .if4 .left), not-true (major .is-04 .result) (c .if5 .taken))
 
 returns-6 : tie.Need-returns-6
 returns-6 c =
     let major = c .before .before .before .before in
-    let size = major .before .before in
-    let ident = size .before .before in
-    let there = ident .before .before .before in
-    let read = there .before .before in
-    let small = read .before in
-    let f = small .before .before .args .f .now in
-    let k =
-    tests f (read .from-bytes .result) (read .from-bytes .ensures) (small .if1 .left) (there .if2 .left) (ident .is-rite .result) (ident .is-rite .ensures)
-    (size .be32-to-u32 .result) (size .be32-to-u32 .ensures) (major .is-04 .result) (major .is-04 .ensures) in
+    let rite = major .before .before .before .before .four-are .result in
     let supported = not-false (major .is-04 .result) (c .before .if5 .left) in
-    rw (k, not-false (ident .is-rite .result) (c .before .before .before .if3 .left), le-leb _ _ (c .before .before .if4 .left), supported, lt-leb _ _ (c .if6 .taken))
+    rw (left major, not-false rite (c .before .before .before .if3 .left), le-leb _ _ (c .before .before .if4 .left), supported, lt-leb _ _ (c .if6 .taken))
 
 returns-7 : tie.Need-returns-7
 returns-7 c =
     let major = c .before .before .before .before in
-    let size = major .before .before in
-    let ident = size .before .before in
-    let there = ident .before .before .before in
-    let read = there .before .before in
-    let small = read .before in
-    let f = small .before .before .args .f .now in
-    let k =
-    tests f (read .from-bytes .result) (read .from-bytes .ensures) (small .if1 .left) (there .if2 .left) (ident .is-rite .result) (ident .is-rite .ensures)
-    (size .be32-to-u32 .result) (size .be32-to-u32 .ensures) (major .is-04 .result) (major .is-04 .ensures) in
+    let rite = major .before .before .before .before .four-are .result in
     let supported = not-false (major .is-04 .result) (c .before .if5 .left) in
-    rw (k, not-false (ident .is-rite .result) (c .before .before .before .if3 .left), le-leb _ _ (c .before .before .if4 .left), supported, le-leb _ _ (c .if6 .left))
+    rw (left major, not-false rite (c .before .before .before .if3 .left), le-leb _ _ (c .before .before .if4 .left), supported, le-leb _ _ (c .if6 .left))
 
 pub file-refusal-spec : {M : Type 1} → statement M
 file-refusal-spec =
@@ -98,7 +109,8 @@ file-refusal-spec =
     returns
     (λ c κs. search needs)
     returns-2
-    (λ c κs. search needs)
+    (λ c. search needs)
+    four-are-requires
     (λ c κs. search needs)
     (λ c. search needs)
     (λ c κs. search needs)

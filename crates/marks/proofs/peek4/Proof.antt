@@ -7,11 +7,11 @@ use Rattle.marks.proofs.peek4.Tie as tie
 
 returns : tie.Need-returns
 unfolding markOf
-returns c = rw (← c .before .is-mark .ensures, c .if1 .taken)
+returns c = rw (← c .before .four-are .ensures, c .if1 .taken)
 
 returns-2 : tie.Need-returns-2
 unfolding markOf
-returns-2 c = rw (← c .before .before .before .is-mark .ensures, c .before .before .if1 .left, ← c .before .is-mark2 .ensures, c .if2 .taken)
+returns-2 c = rw (← c .before .before .before .four-are .ensures, c .before .before .if1 .left, ← c .before .four-are2 .ensures, c .if2 .taken)
 
 returns-3 : tie.Need-returns-3
 unfolding markOf
@@ -20,7 +20,7 @@ returns-3 c =
     let c3 = c2 .before in
     let c4 = c3 .before in
     let c5 = c4 .before in
-    rw (← c5 .is-mark .ensures, c4 .if1 .left, ← c3 .is-mark2 .ensures, c2 .if2 .left, ← c .before .is-mark3 .ensures, c .if3 .taken)
+    rw (← c5 .four-are .ensures, c4 .if1 .left, ← c3 .four-are2 .ensures, c2 .if2 .left, ← c .before .four-are3 .ensures, c .if3 .taken)
 
 returns-4 : tie.Need-returns-4
 unfolding markOf
@@ -31,7 +31,7 @@ returns-4 c =
     let c5 = c4 .before in
     let c6 = c5 .before in
     let c7 = c6 .before in
-    rw (← c7 .is-mark .ensures, c6 .if1 .left, ← c5 .is-mark2 .ensures, c4 .if2 .left, ← c3 .is-mark3 .ensures, c2 .if3 .left, ← c .before .is-mark4 .ensures, c .if4 .taken)
+    rw (← c7 .four-are .ensures, c6 .if1 .left, ← c5 .four-are2 .ensures, c4 .if2 .left, ← c3 .four-are3 .ensures, c2 .if3 .left, ← c .before .four-are4 .ensures, c .if4 .taken)
 
 returns-5 : tie.Need-returns-5
 unfolding markOf
@@ -42,7 +42,7 @@ returns-5 c =
     let c5 = c4 .before in
     let c6 = c5 .before in
     let c7 = c6 .before in
-    rw (← c7 .is-mark .ensures, c6 .if1 .left, ← c5 .is-mark2 .ensures, c4 .if2 .left, ← c3 .is-mark3 .ensures, c2 .if3 .left, ← c .before .is-mark4 .ensures, c .if4 .left)
+    rw (← c7 .four-are .ensures, c6 .if1 .left, ← c5 .four-are2 .ensures, c4 .if2 .left, ← c3 .four-are3 .ensures, c2 .if3 .left, ← c .before .four-are4 .ensures, c .if4 .left)
 
 pub peek4-spec : {M : Type 1} → statement M
 peek4-spec =

@@ -387,14 +387,26 @@ impl<'a> Reader<'a> {
         Ok(())
     }
 
+    /// Reads so many texts without zero bytes, each for a row of a table.
+    fn read_texts(
+        &mut self,
+        part: &mut Part,
+        count: u32,
+        table: usize,
+        thing: &str,
+    ) -> Result<(), Met> {
+        for index in 0..count {
+            let byte = part.place;
+            part.text(format_args!("{thing} {index}"))?;
+            self.need(table, part, byte)?;
+        }
+        Ok(())
+    }
+
     fn read_lvar(&mut self, start: usize) -> Result<usize, Met> {
         let (mut part, size) = self.part("LVAR", start)?;
         let count = part.four(format_args!("the number of names"))?;
-        for index in 0..count {
-            let byte = part.place;
-            part.text(format_args!("name {index}"))?;
-            self.need(STRINGS, &part, byte)?;
-        }
+        self.read_texts(&mut part, count, STRINGS, "name")?;
         self.walk(|reader, number| {
             part.record = Some(number as u32);
             reader.read_names(&mut part, number, count)?;
@@ -432,11 +444,7 @@ impl<'a> Reader<'a> {
         self.size_in_file(&part, start, size)?;
         part.end = start + size;
         let count = part.two(format_args!("the number of file names"))?;
-        for index in 0..count {
-            let byte = part.place;
-            part.text(format_args!("file name {index}"))?;
-            self.need(FILENAMES, &part, byte)?;
-        }
+        self.read_texts(&mut part, count, FILENAMES, "file name")?;
         self.walk(|reader, number| {
             if part.place == part.end {
                 return Ok(false);

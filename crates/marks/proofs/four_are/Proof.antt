@@ -1,9 +1,9 @@
--- `marks::is_mark` meets its contract.
+-- `marks::four_are` meets its contract.
 -- Assumes nothing.
 use borrow.Author.Tests.{eq-eqb, ne-eqb}
 use borrow.Author.Needs.{needs}
-use Rattle.marks.proofs.is_mark.Statement.{statement}
-use Rattle.marks.proofs.is_mark.Tie as tie
+use Rattle.marks.proofs.four_are.Statement.{statement}
+use Rattle.marks.proofs.four_are.Tie as tie
 
 returns : tie.Need-returns
 returns c = rw (ne-eqb _ _ (c .if1 .taken))
@@ -17,8 +17,8 @@ returns-3 c = rw (eq-eqb _ _ (c .before .before .before .before .if1 .left), eq-
 returns-4 : tie.Need-returns-4
 returns-4 c = rw (eq-eqb _ _ (c .before .before .before .before .before .if1 .left), eq-eqb _ _ (c .before .before .before .if2 .left), eq-eqb _ _ (c .before .if3 .left))
 
-pub is-mark-spec : {M : Type 1} → statement M
-is-mark-spec =
+pub four-are-spec : {M : Type 1} → statement M
+four-are-spec =
     tie.close
     (tie.spec
     (λ c. search needs)
