@@ -1,8 +1,8 @@
 // Fields of two and four bytes.
 ghost use mathlib.Core.Path.{_≡_};
-ghost use Prim.Native.Nat.{_-_, _<_};
+ghost use Prim.Native.Nat.{_+_, _-_, _≤_, _<_};
 ghost use lib.ListN.{length};
-ghost use Rattle.format.specs.Bytes.{u16At, u32At, reads};
+ghost use Rattle.format.specs.Bytes.{byte, u16At, u32At, reads};
 ghost use Rattle.binfmt.specs.Answers.{field16Of, field32Of};
 
 // A field of two bytes, or the refusal's number.
@@ -54,13 +54,37 @@ pub fn rest(head: &[u8], cur: usize) -> usize
     }
 }
 
+// The byte at a place.
+pub fn u8_in(head: &[u8], cur: usize) -> u32
+    requires { ⌜ cur + 1 ≤ length (now head) ⌝ }
+    ensures { λ r. ⌜ (r ≡ byte (now (head .entry)) cur) × (r < 256) ⌝ }
+{
+    wide32(head[cur])
+}
+
+// The field of two bytes at a place.
+pub fn u16_in(head: &[u8], cur: usize) -> u16
+    requires { ⌜ cur + 2 ≤ length (now head) ⌝ }
+    ensures { λ r. ⌜ r ≡ u16At (now (head .entry)) cur ⌝ }
+{
+    be16_to_u16([head[cur], head[cur + 1]])
+}
+
+// The field of four bytes at a place.
+pub fn u32_in(head: &[u8], cur: usize) -> u32
+    requires { ⌜ cur + 4 ≤ length (now head) ⌝ }
+    ensures { λ r. ⌜ r ≡ u32At (now (head .entry)) cur ⌝ }
+{
+    be32_to_u32([head[cur], head[cur + 1], head[cur + 2], head[cur + 3]])
+}
+
 pub fn u16_at(head: &[u8], cur: usize) -> Field16
     ensures { λ r. ⌜ field16Of r ≡ reads (now (head .entry)) cur 2 (u16At (now (head .entry)) cur) ⌝ }
 {
     if rest(head, cur) < 2 {
         return Field16::Refused(7);
     }
-    Field16::Value(be16_to_u16([head[cur], head[cur + 1]]))
+    Field16::Value(u16_in(head, cur))
 }
 
 pub fn u32_at(head: &[u8], cur: usize) -> Field32
@@ -69,5 +93,5 @@ pub fn u32_at(head: &[u8], cur: usize) -> Field32
     if rest(head, cur) < 4 {
         return Field32::Refused(7);
     }
-    Field32::Value(be32_to_u32([head[cur], head[cur + 1], head[cur + 2], head[cur + 3]]))
+    Field32::Value(u32_in(head, cur))
 }

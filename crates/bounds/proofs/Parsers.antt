@@ -8,9 +8,9 @@ use mathlib.Core.Option.{Option}
 use lib.Dec.{leb, ltb, eqb}
 use lib.ListN.{length}
 use borrow.Author.Tests.{leb-true, ltb-true}
-use Rattle.format.specs.Bytes.{has, byte, u16At, u32At}
+use Rattle.format.specs.Bytes.{has, byte, noZero, u16At, u32At}
 use Rattle.format.specs.Rows.{LineRow}
-use Rattle.format.specs.Lvar.{noZero, plainText, nameEntry}
+use Rattle.format.specs.Lvar.{plainText, nameEntry}
 use Rattle.format.specs.Packed.{packedFrom, packed, packedEntry}
 use Rattle.format.specs.Debug.{above, fileHead, mapEntry}
 use Rattle.format.proofs.Answers.{either, Answers, tested, chained}

@@ -7,7 +7,7 @@ use lib.Dec.{leb}
 use lib.ListN.{length, getD, length-append}
 use Rattle.format.specs.Bytes.{Answer, ok, refused, Step, has, u16At, u32At}
 use Rattle.format.specs.Reading.{Read, Part, andThen, inTurn}
-use Rattle.format.specs.Irep.{handler, text, poolEntry, counted, headAt, Body, body, Rec, bodyAt, recordAt, recordsFrom, irepSection}
+use Rattle.format.specs.Irep.{handler, symbolText, poolEntry, counted, headAt, Body, body, Rec, bodyAt, recordAt, recordsFrom, irepSection}
 use Rattle.format.specs.Load.{gathered}
 use Rattle.format.proofs.Answers.{either}
 use Rattle.bounds.proofs.Covers.{inTurn-count}
@@ -64,7 +64,7 @@ module _ (f : List ℕ) (bytes : (i : ℕ) → getD f i 0 < 256) (base : ℕ) wh
       record {
         handlers = omega (arith, inTurn-count (handler f) n at);
         pool = andThen-rows (λ l. length l ≤ 65535) (a .end) (counted f (poolEntry f base)) (omega arith) (counted-small (poolEntry f base));
-        symbols = andThen-rows (λ l. length l ≤ 65535) (b .end) (counted f (text f base)) (omega arith) (counted-small (text f base));
+        symbols = andThen-rows (λ l. length l ≤ 65535) (b .end) (counted f (symbolText f base)) (omega arith) (counted-small (symbolText f base));
       }
 
   pub recordAt-small : (at : ℕ) → Small (recordAt f base at .it .body)

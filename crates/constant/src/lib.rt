@@ -6,9 +6,9 @@ ghost use Rattle.format.specs.Bytes.{int32At, int64At, float64At};
 ghost use Rattle.format.specs.Rows.{textRow};
 ghost use Rattle.format.specs.Lookup as format;
 ghost use Rattle.constant.specs.Answers.{poolRow, poolOf};
-use number::Float64;
 use number::Int32;
 use number::Int64;
+use number_float::Float64;
 
 // A constant by its kind: texts and big integers are bytes of the file.
 pub enum PoolValue {
@@ -38,7 +38,7 @@ fn int32(f: &[u8], place: u32, len: u32) -> PoolAnswer
     }
 }
 
-// A whole number of eight bytes, low byte first.
+// A whole number of eight bytes, high byte first.
 fn int64(f: &[u8], place: u32, len: u32) -> PoolAnswer
     requires { ⌜ place + len ≤ length (now f) ⌝ }
     ensures { λ r. ⌜ poolOf r ≡ format.ofBytes 8 (textRow place len) (format.int (int64At (now (f .entry)) place)) ⌝ }
@@ -60,7 +60,7 @@ fn float64(f: &[u8], place: u32, len: u32) -> PoolAnswer
     if len != 8 {
         return PoolAnswer::Refused(22);
     }
-    match number::f64_at(f, place as usize) {
+    match number_float::f64_at(f, place as usize) {
         Float64::Refused(e) => PoolAnswer::Refused(e),
         Float64::Value(x) => PoolAnswer::Value(PoolValue::Float(x)),
     }

@@ -1,6 +1,9 @@
 // The DBG section: its file names, then the debug files of each record that the walk visits with their lines, put into lent tables of words.
 use binfmt::Field32;
 use binfmt::rest;
+use binfmt::u8_in;
+use binfmt::u16_in;
+use binfmt::u32_in;
 use headers::section_size;
 use line::Pos;
 use linemap::between;
@@ -12,9 +15,6 @@ use rows::minus;
 use rows::put_row;
 use rows::read_rows;
 use rows::row_count;
-use rows::u8_in;
-use rows::u16_in;
-use rows::u32_in;
 ghost use mathlib.Core.Path.{_≡_};
 ghost use mathlib.Core.Option.{none};
 ghost use Prim.Native.Nat.{_+_, _*_, _≤_, _<_};

@@ -1,4 +1,5 @@
 pub mod Answers
+pub mod Texts
 pub mod File
 pub mod Table
 pub mod RowsFrom

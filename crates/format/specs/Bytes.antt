@@ -53,6 +53,11 @@ reads f at n v = cond (has f at n) (ok v) (refused 7)
 abbrev pub byte : List ℕ → ℕ → ℕ
 byte f at = getD f at 0
 
+-- none of the n bytes from `at` on is zero
+unfoldable pub noZero : List ℕ → ℕ → ℕ → Bool
+noZero f zero at = true
+noZero f (suc n) at = cond (eqb (byte f at) 0) false (noZero f n (at + 1))
+
 -- the bytes of a field of two, and of four
 abbrev pub twoAt : List ℕ → ℕ → List ℕ
 twoAt f at = byte f at ∷ byte f (at + 1) ∷ []
@@ -81,6 +86,10 @@ u24At f at = (byte f at * 256 + byte f (at + 1)) * 256 + byte f (at + 2)
 abbrev pub u32At : List ℕ → ℕ → ℕ
 u32At f at = ((byte f at * 256 + byte f (at + 1)) * 256 + byte f (at + 2)) * 256 + byte f (at + 3)
 
+-- a number of eight bytes, high byte first
+abbrev pub u64At : List ℕ → ℕ → ℕ
+u64At f at = u32At f at * 2 ^ 32 + u32At f (at + 4)
+
 -- a number of eight bytes, low byte first
 abbrev pub le64At : List ℕ → ℕ → ℕ
 le64At f at =
@@ -100,12 +109,14 @@ signed32 n = cond (ltb n (2 ^ 31)) (pos n) (negsuc (2 ^ 32 - 1 - n))
 abbrev pub signed64 : ℕ → ℤ
 signed64 n = cond (ltb n (2 ^ 63)) (pos n) (negsuc (2 ^ 64 - 1 - n))
 
--- "1 int32", high byte first; "3 int64 low byte first"; "5 float64 low byte first"
+-- "1 int32", high byte first
 abbrev pub int32At : List ℕ → ℕ → ℤ
 int32At f at = signed32 (u32At f at)
 
+-- Paper 01: "3 int64 low byte first"; in its place paper 02, d): "Eight-byte pool integers are now read high byte first."
 abbrev pub int64At : List ℕ → ℕ → ℤ
-int64At f at = signed64 (le64At f at)
+int64At f at = signed64 (u64At f at)
 
+-- "5 float64 low byte first"
 abbrev pub float64At : List ℕ → ℕ → Float
 float64At f at = ofBits binary64 (le64At f at)

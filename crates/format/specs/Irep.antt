@@ -1,12 +1,12 @@
 -- The IREP section as rows. f is the part of the file from the section's start on, and base is that start: rows hold places in the file.
--- Paper 01, 'Loading'.
+-- Paper 01, 'Loading'; paper 02, d).
 -- Assumes nothing.
 use Prim.Native.Nat.{ℕ, zero, suc, _+_}
-use mathlib.Core.Bool.{Bool, true, false, cond}
+use mathlib.Core.Bool.{cond}
 use mathlib.Core.List.{List, [], _∷_}
 use lib.Dec.{leb, eqb}
 use lib.ListN.{length}
-use Rattle.format.specs.Bytes.{Answer, ok, refused, bind, Step, step, has, reads, byte, u16At, u32At}
+use Rattle.format.specs.Bytes.{Answer, ok, refused, bind, Step, step, has, reads, byte, noZero, u16At, u32At}
 use Rattle.format.specs.Reading.{Read, reading, Part, part, add, andThen, inTurn}
 use Rattle.format.specs.Rows.{HandlerRow, PoolRow, TextRow, textRow}
 
@@ -16,19 +16,21 @@ handler f at =
     reads f at 13
     (step (record { kind = byte f at; begin = u32At f (at + 1); end = u32At f (at + 5); target = u32At f (at + 9) }) (at + 13))
 
--- of the n + 1 bytes from `at` on only the last is zero
-unfoldable pub zeroLast : List ℕ → ℕ → ℕ → Bool
-zeroLast f zero at = eqb (byte f at) 0
-zeroLast f (suc n) at = cond (eqb (byte f at) 0) false (zeroLast f n (at + 1))
-
--- "A string or symbol is a 2-byte length n, then n + 1 bytes whose only zero is the last." "Text goes without its zero."
-unfoldable pub text : List ℕ → ℕ → ℕ → Answer (Step TextRow)
-text f base at =
+-- "A string .. is a 2-byte length n, then n + 1 bytes". Paper 01: "whose only zero is the last"; in its place paper 02, d): "Pool strings may
+-- have zero bytes inside; the last byte must still be zero." "Text goes without its zero."
+unfoldable pub poolText : List ℕ → ℕ → ℕ → Answer (Step TextRow)
+poolText f base at =
+    let n = u16At f at in
     cond (has f at 2)
-    (cond (has f (at + 2) (u16At f at + 1))
-    (cond (zeroLast f (u16At f at) (at + 2)) (ok (step (textRow (base + (at + 2)) (u16At f at)) (at + 2 + (u16At f at + 1)))) (refused 9))
+    (cond (has f (at + 2) (n + 1))
+    (cond (eqb (byte f (at + 2 + n)) 0) (ok (step (textRow (base + (at + 2)) n) (at + 2 + (n + 1)))) (refused 9))
     (refused 7))
     (refused 7)
+
+-- "A .. symbol is a 2-byte length n, then n + 1 bytes whose only zero is the last": the last byte is zero as a string's is, and no other.
+-- Paper 02, d): "Symbols, local names and file names keep their rule."
+unfoldable pub symbolText : List ℕ → ℕ → ℕ → Answer (Step TextRow)
+symbolText f base at = bind (poolText f base at) (λ s. cond (noZero f (s .it .length) (at + 2)) (ok s) (refused 9))
 
 -- n bytes
 abbrev pub bytes : List ℕ → ℕ → ℕ → ℕ → Answer (Step TextRow)
@@ -41,8 +43,8 @@ bigInteger f base at = cond (has f at 1) (bytes f base (at + 1) (byte f at + 1))
 -- "Pool kinds: 0 and 2 string, 1 int32, 3 int64 .., 5 float64 .., 7 big integer"; "10: unknown pool kind"
 unfoldable pub poolValue : List ℕ → ℕ → ℕ → ℕ → Answer (Step TextRow)
 poolValue f base k at =
-    cond (eqb k 0) (text f base at)
-    (cond (eqb k 2) (text f base at)
+    cond (eqb k 0) (poolText f base at)
+    (cond (eqb k 2) (poolText f base at)
     (cond (eqb k 1) (bytes f base at 4)
     (cond (eqb k 3) (bytes f base at 8)
     (cond (eqb k 5) (bytes f base at 8)
@@ -100,7 +102,7 @@ unfoldable pub bodyAt : List ℕ → ℕ → ℕ → ℕ → Part Body
 bodyAt f base clen at =
     let h = inTurn (handler f) clen at in
     let p = andThen (h .end) (counted f (poolEntry f base)) in
-    let s = andThen (p .end) (counted f (text f base)) in
+    let s = andThen (p .end) (counted f (symbolText f base)) in
     part (body (h .rows) (p .rows) (s .rows)) (s .end)
 
 -- A record whose 16 bytes are there, with "ilen instruction bytes". "The next record starts at this start plus the stated size, wherever

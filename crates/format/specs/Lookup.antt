@@ -92,8 +92,8 @@ pub data Constant : Type 0 where
 abbrev pub ofBytes : ℕ → TextRow → Constant → Answer Constant
 ofBytes n t c = cond (eqb (t .length) n) (ok c) (refused 22)
 
--- The constant that bytes of the file are. "Pool kinds: 0 and 2 string, 1 int32, 3 int64 low byte first, 5 float64 low byte first, 7 big
--- integer"
+-- The constant that bytes of the file are. "Pool kinds: 0 and 2 string, 1 int32, 3 int64 .., 5 float64 low byte first, 7 big integer", int64
+-- as paper 02, d), reads it
 unfoldable pub constantAt : List ℕ → ℕ → TextRow → Answer Constant
 constantAt f kind t =
     cond (eqb kind 0) (ok (text t))

@@ -1,20 +1,15 @@
 -- The LVAR section. f is the part of the file from the section's start on, base that start. Paper 01, 'Loading'.
 -- Assumes nothing.
-use Prim.Native.Nat.{ℕ, zero, suc, _+_, _-_}
-use mathlib.Core.Bool.{Bool, true, false, _||_, cond}
+use Prim.Native.Nat.{ℕ, _+_, _-_}
+use mathlib.Core.Bool.{false, _||_, cond}
 use mathlib.Core.List.{List, []}
 use lib.Dec.{leb, ltb, eqb}
 use lib.ListN.{length}
-use Rattle.format.specs.Bytes.{Answer, ok, refused, bind, Step, step, has, byte, u16At, u32At}
+use Rattle.format.specs.Bytes.{Answer, ok, refused, bind, Step, step, has, noZero, u16At, u32At}
 use Rattle.format.specs.Reading.{Read, Part, part, andThen, inTurn}
 use Rattle.format.specs.Rows.{TextRow, textRow, NameRow, nameRow}
 use Rattle.format.specs.Irep.{Rec}
 use Rattle.format.specs.Walk.{walk}
-
--- none of the n bytes from `at` on is zero
-unfoldable pub noZero : List ℕ → ℕ → ℕ → Bool
-noZero f zero at = true
-noZero f (suc n) at = cond (eqb (byte f at) 0) false (noZero f n (at + 1))
 
 -- "strings (length 2, bytes without any zero)", and "names as in LVAR"
 unfoldable pub plainText : List ℕ → ℕ → ℕ → Answer (Step TextRow)

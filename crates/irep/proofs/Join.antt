@@ -13,7 +13,7 @@ use borrow.Author.Tests.{leb-true, leb-false}
 use Rattle.format.specs.Bytes.{ok, refused, bind, has, u32At}
 use Rattle.format.specs.Reading.{Read, reading, Part, part, andThen, inTurn}
 use Rattle.format.specs.Rows.{RecordRow, HandlerRow, PoolRow, TextRow, recordWords, handlerWords, poolWords, textWords, tableOf}
-use Rattle.format.specs.Irep.{handler, poolEntry, text, counted, headAt, Body, body, Rec, bodyAt, recordAt, recordsFrom, irepSection}
+use Rattle.format.specs.Irep.{handler, poolEntry, symbolText, counted, headAt, Body, body, Rec, bodyAt, recordAt, recordsFrom, irepSection}
 use Rattle.format.specs.Load.{Before, start, recordRow, recordRows, gathered, Nine}
 use Rattle.rows.specs.declared.Rows.the-variants as rows
 use Rattle.rows.specs.declared.Row.the-variants.{Pool, Symbol}
@@ -93,7 +93,7 @@ module _ (limit : ℕ) (m : Nine) where
     pr a = counted f (poolEntry f base) a
 
     abbrev sr : ℕ → Read TextRow
-    sr a = counted f (text f base) a
+    sr a = counted f (symbolText f base) a
 
     after-pool : (a c : ℕ) → hr .end ≡ ok a → pr a .end ≡ ok c
         → length (b .handlers ++ hr .rows) ≤ rowCount (m .handlers) 4 → length (b .pool ++ pr a .rows) ≤ rowCount (m .pool) 3
@@ -115,7 +115,7 @@ module _ (limit : ℕ) (m : Nine) where
     unfolding bodyOf bodyAt countedOf
     after-handlers a p x d (Ran.went c q y e) =
         after-pool a c p q x y d e
-        (counted-ran textWords 2 (λ _. refl) (omega arith) (m .symbols) (symbolOf f base) (text f base) (symbol-agrees f base) f c (b .symbols) (rm .symbols))
+        (counted-ran textWords 2 (λ _. refl) (omega arith) (m .symbols) (symbolOf f base) (symbolText f base) (symbol-agrees f base) f c (b .symbols) (rm .symbols))
     after-handlers a p x d (Ran.stop k q y e) =
         rw (p, q, d, e) (Ran.stop k refl (record { within = rm .within; records = rm .records; handlers = x; pool = y; symbols = rw append-nil (rm .symbols) }) refl)
     after-handlers a p x d (Ran.full y e) = rw (p, d, e) (Ran.full (λ r. y (r .pool)) refl)

@@ -3,7 +3,7 @@
 use Prim.Native.Nat.{ℕ, _+_, _/_, _≤_, _<_}
 use native.Mathlib.Omega.{arith}
 use mathlib.Core.Path.{_≡_, refl, ap, _∙_}
-use mathlib.Core.Logic.{_⊎_, inl, inr}
+use mathlib.Core.Logic.{_⊎_, ⊎-elim, inl, inr}
 use mathlib.Core.Bool.{Bool, true, false, _&&_, cond}
 use mathlib.Core.List.{List, []}
 use mathlib.Core.Option.{none, some}
@@ -23,8 +23,8 @@ use Rattle.format.specs.Lookup.{float, constantAt, constantOf, pool, symbol, na
 use Rattle.format.proofs.Places.{rows-length, fileRows-length}
 use Rattle.layout.proofs.Own.{Own, OwnFile, Owns, owns, table-row}
 use Rattle.layout.proofs.Ends.{Each}
-use Rattle.layout.proofs.Inside.{TextInside, NameInside, FileInside, Known, string, static-string, int32, int64, float64, big-integer, PoolInside}
-use Rattle.layout.proofs.Inside.{Inside, loading-inside, Held, loading-held}
+use Rattle.layout.proofs.Inside.{TextInside, StringInside, SymbolInside, PlainInside, NameInside, FileInside, PoolInside, Inside, loading-inside, Held, loading-held}
+use Rattle.layout.proofs.Inside.{Known, string, static-string, int32, int64, float64, big-integer}
 use Rattle.layout.proofs.Back.{table-zero, has-row, row-in, row-past, rows-in, record-back, text-back, file-back, handler-back, pool-back, name-back}
 use Rattle.layout.proofs.Back.{lines-back}
 
@@ -49,7 +49,7 @@ zeroRow : RecordRow
 zeroRow = recordRowAt [] 0
 
 -- a text of the file, by its index in a table
-text-in : (f : List ℕ) (m : ℕ) (rs : List TextRow) → length rs ≤ m / 2 → (i : ℕ) (t : TextRow) → i < length rs → TextInside (length f) (getD rs i t)
+text-in : (f : List ℕ) (m : ℕ) (rs : List TextRow) → length rs ≤ m / 2 → (i : ℕ) (t : TextRow) → i < length rs → TextInside f (getD rs i t)
     → textIn f (tableOf textWords m rs) i ≡ ok (getD rs i t)
 unfolding textIn bytesIn
 text-in f m rs fit i t h g =
@@ -89,21 +89,31 @@ module _ (f : List ℕ) (q : PoolRow) (inside : q .place + q .length ≤ length 
   unfolding constantOf constantAt bytesIn
   constant-big k = rw (le-leb _ _ inside, k)
 
-  constant-ok : Known q → (x : Constant) × (constantOf f q ≡ ok x)
-  constant-ok (string k) = (text (textRow (q .place) (q .length)), constant-string (inl k))
-  constant-ok (static-string k) = (text (textRow (q .place) (q .length)), constant-string (inr k))
+  constant-ok : Known f q → (x : Constant) × (constantOf f q ≡ ok x)
+  constant-ok (string k _) = (text (textRow (q .place) (q .length)), constant-string (inl k))
+  constant-ok (static-string k _) = (text (textRow (q .place) (q .length)), constant-string (inr k))
   constant-ok (int32 k n) = (int (int32At f (q .place)), constant-int32 k n)
   constant-ok (int64 k n) = (int (int64At f (q .place)), constant-int64 k n)
   constant-ok (float64 k n) = (float (float64At f (q .place)), constant-float64 k n)
   constant-ok (big-integer k) = (big (textRow (q .place) (q .length)), constant-big k)
 
-known-lengths : (q : PoolRow) → Known q → (q .kind ≡ 1 → q .length ≡ 4) × (q .kind ≡ 3 → q .length ≡ 8) × (q .kind ≡ 5 → q .length ≡ 8)
-known-lengths q (string k) = (λ e. absurd (omega arith), λ e. absurd (omega arith), λ e. absurd (omega arith))
-known-lengths q (static-string k) = (λ e. absurd (omega arith), λ e. absurd (omega arith), λ e. absurd (omega arith))
-known-lengths q (int32 k n) = (λ e. n, λ e. absurd (omega arith), λ e. absurd (omega arith))
-known-lengths q (int64 k n) = (λ e. absurd (omega arith), λ e. n, λ e. n)
-known-lengths q (float64 k n) = (λ e. absurd (omega arith), λ e. n, λ e. n)
-known-lengths q (big-integer k) = (λ e. absurd (omega arith), λ e. absurd (omega arith), λ e. absurd (omega arith))
+-- what a known kind says of the entry
+module _ (f : List ℕ) (q : PoolRow) where
+  known-lengths : Known f q → (q .kind ≡ 1 → q .length ≡ 4) × (q .kind ≡ 3 → q .length ≡ 8) × (q .kind ≡ 5 → q .length ≡ 8)
+  known-lengths (string k _) = (λ e. absurd (omega arith), λ e. absurd (omega arith), λ e. absurd (omega arith))
+  known-lengths (static-string k _) = (λ e. absurd (omega arith), λ e. absurd (omega arith), λ e. absurd (omega arith))
+  known-lengths (int32 k n) = (λ e. n, λ e. absurd (omega arith), λ e. absurd (omega arith))
+  known-lengths (int64 k n) = (λ e. absurd (omega arith), λ e. n, λ e. n)
+  known-lengths (float64 k n) = (λ e. absurd (omega arith), λ e. n, λ e. n)
+  known-lengths (big-integer k) = (λ e. absurd (omega arith), λ e. absurd (omega arith), λ e. absurd (omega arith))
+
+  known-string : Known f q → (q .kind ≡ 0) ⊎ (q .kind ≡ 2) → StringInside f (textRow (q .place) (q .length))
+  known-string (string k x) e = x
+  known-string (static-string k x) e = x
+  known-string (int32 k n) e = ⊎-elim (λ z. absurd (omega arith)) (λ z. absurd (omega arith)) e
+  known-string (int64 k n) e = ⊎-elim (λ z. absurd (omega arith)) (λ z. absurd (omega arith)) e
+  known-string (float64 k n) e = ⊎-elim (λ z. absurd (omega arith)) (λ z. absurd (omega arith)) e
+  known-string (big-integer k) e = ⊎-elim (λ z. absurd (omega arith)) (λ z. absurd (omega arith)) e
 
 -- The answer about the debug file x: its start, its name's text, and the rows of its lines; those rows of the table are x's lines.
 pub record FileAnswer (m : Nine) (c : Content) (x : File) (a : Answer DebugFile) : Type 0 where
@@ -186,7 +196,7 @@ module _ (f : List ℕ) (m : Nine) (c : Content) (loaded : loading f m ≡ ok c)
     pool-past j g =
         rw (record-in, row-past poolWords 3 (λ _. refl) (omega arith) (m .pool) (tablesOf c .pool) (room .pool) (row .pool) _ (own .pool) j g)
 
-    inside : (j : ℕ) (q : PoolRow) → j < length (getD (recordsOf c) i d .body .pool) → PoolInside (length f) (getD (getD (recordsOf c) i d .body .pool) j q)
+    inside : (j : ℕ) (q : PoolRow) → j < length (getD (recordsOf c) i d .body .pool) → PoolInside f (getD (getD (recordsOf c) i d .body .pool) j q)
     inside j q g = every .records i d h .pool j q g
 
     -- what the constant is, by its kind: "0 and 2 string", "1 int32"
@@ -195,21 +205,28 @@ module _ (f : List ℕ) (m : Nine) (c : Content) (loaded : loading f m ≡ ok c)
         (x .kind ≡ 0) ⊎ (x .kind ≡ 2) → pool f (held m c .records) (held m c .pool) i j ≡ ok (text (textRow (x .place) (x .length)))
     pool-string j q g k = pool-is j q g ∙ constant-string f _ (inside j q g .bytes) k
 
+    -- paper 02, d): "Pool strings may have zero bytes inside; the last byte must still be zero."
+    pub pool-string-ended : (j : ℕ) (q : PoolRow) → j < length (getD (recordsOf c) i d .body .pool)
+        → let x = getD (getD (recordsOf c) i d .body .pool) j q in
+        (x .kind ≡ 0) ⊎ (x .kind ≡ 2) → StringInside f (textRow (x .place) (x .length))
+    pool-string-ended j q g k = known-string f _ (inside j q g .known) k
+
     pub pool-int32 : (j : ℕ) (q : PoolRow) → j < length (getD (recordsOf c) i d .body .pool)
         → let x = getD (getD (recordsOf c) i d .body .pool) j q in
         x .kind ≡ 1 → pool f (held m c .records) (held m c .pool) i j ≡ ok (int (int32At f (x .place)))
-    pool-int32 j q g k = pool-is j q g ∙ constant-int32 f _ (inside j q g .bytes) k (known-lengths _ (inside j q g .known) .0 k)
+    pool-int32 j q g k = pool-is j q g ∙ constant-int32 f _ (inside j q g .bytes) k (known-lengths f _ (inside j q g .known) .0 k)
 
-    -- "3 int64 low byte first", "5 float64 low byte first"
+    -- paper 02, d): "Eight-byte pool integers are now read high byte first."
     pub pool-int64 : (j : ℕ) (q : PoolRow) → j < length (getD (recordsOf c) i d .body .pool)
         → let x = getD (getD (recordsOf c) i d .body .pool) j q in
         x .kind ≡ 3 → pool f (held m c .records) (held m c .pool) i j ≡ ok (int (int64At f (x .place)))
-    pool-int64 j q g k = pool-is j q g ∙ constant-int64 f _ (inside j q g .bytes) k (known-lengths _ (inside j q g .known) .1 k)
+    pool-int64 j q g k = pool-is j q g ∙ constant-int64 f _ (inside j q g .bytes) k (known-lengths f _ (inside j q g .known) .1 k)
 
+    -- "5 float64 low byte first"
     pub pool-float64 : (j : ℕ) (q : PoolRow) → j < length (getD (recordsOf c) i d .body .pool)
         → let x = getD (getD (recordsOf c) i d .body .pool) j q in
         x .kind ≡ 5 → pool f (held m c .records) (held m c .pool) i j ≡ ok (float (float64At f (x .place)))
-    pool-float64 j q g k = pool-is j q g ∙ constant-float64 f _ (inside j q g .bytes) k (known-lengths _ (inside j q g .known) .2 k)
+    pool-float64 j q g k = pool-is j q g ∙ constant-float64 f _ (inside j q g .bytes) k (known-lengths f _ (inside j q g .known) .2 k)
 
     -- "7 big integer"
     pub pool-big-integer : (j : ℕ) (q : PoolRow) → j < length (getD (recordsOf c) i d .body .pool)
@@ -224,6 +241,10 @@ module _ (f : List ℕ) (m : Nine) (c : Content) (loaded : loading f m ≡ ok c)
         let x = constant-ok f (getD (getD (recordsOf c) i d .body .pool) j q) (inside j q g .bytes) (inside j q g .known) in
         (x .0, pool-is j q g ∙ x .1)
 
+    -- d): "Symbols, local names and file names keep their rule."
+    pub symbol-bytes : (j : ℕ) (t : TextRow) → j < length (getD (recordsOf c) i d .body .symbols) → SymbolInside f (getD (getD (recordsOf c) i d .body .symbols) j t)
+    symbol-bytes j t g = every .records i d h .symbols j t g
+
     -- symbol j, and past the last
     pub symbol-is : (j : ℕ) (t : TextRow) → j < length (getD (recordsOf c) i d .body .symbols)
         → symbol f (held m c .records) (held m c .symbols) i j ≡ ok (getD (getD (recordsOf c) i d .body .symbols) j t)
@@ -233,8 +254,9 @@ module _ (f : List ℕ) (m : Nine) (c : Content) (loaded : loading f m ≡ ok c)
         let n = o .number in
         let q = o .inside in
         let e = o .at j t (omega arith) in
+        let x = symbol-bytes j t g .string .inside in
         rw (record-in, row-in textWords 2 (λ _. refl) (omega arith) (m .symbols) (tablesOf c .symbols) (room .symbols) (row .symbols) _ o j g)
-        (text-in f (m .symbols) (tablesOf c .symbols) (room .symbols) (row .symbols .first + j) t (omega arith) (rw e (every .records i d h .symbols j t g)) ∙ ap ok e)
+        (text-in f (m .symbols) (tablesOf c .symbols) (room .symbols) (row .symbols .first + j) t (omega arith) (rw e (omega arith)) ∙ ap ok e)
 
     pub symbol-past : (j : ℕ) → length (getD (recordsOf c) i d .body .symbols) ≤ j → symbol f (held m c .records) (held m c .symbols) i j ≡ refused 22
     unfolding symbol
@@ -261,7 +283,7 @@ module _ (f : List ℕ) (m : Nine) (c : Content) (loaded : loading f m ≡ ok c)
     name-is j x t g ne =
         let n = getD (getD (namesOf c) i []) j x .index in
         let b = below n (inner (NameInside (length (stringsOf c))) (namesOf c) (every .names) i j x g) ne in
-        name-at j x g ∙ rw (ne-eqb n 65535 ne, text-in f (m .strings) (stringsOf c) (room .strings) n t b (every .strings n t b))
+        name-at j x g ∙ rw (ne-eqb n 65535 ne, text-in f (m .strings) (stringsOf c) (room .strings) n t b (every .strings n t b .inside))
       where
         below : (n : ℕ) → (n ≡ 65535) ⊎ (n < length (stringsOf c)) → ¬ (n ≡ 65535) → n < length (stringsOf c)
         below n (inl e) ne = absurd (ne e)
@@ -279,7 +301,7 @@ module _ (f : List ℕ) (m : Nine) (c : Content) (loaded : loading f m ≡ ok c)
     file-answer X F x b t =
         rw (
           x .name,
-          text-in f (m .fileNames) (fileNamesOf c) (room .fileNames) (F .name) t b (every .fileNames (F .name) t b),
+          text-in f (m .fileNames) (fileNamesOf c) (room .fileNames) (F .name) t b (every .fileNames (F .name) t b .inside),
           rows-in lineWords 2 (λ _. refl) (omega arith) (m .lines) (tablesOf c .lines) (room .lines) (X .lines) _ (x .lines),
           x .start,
         )
@@ -334,6 +356,13 @@ module _ (f : List ℕ) (m : Nine) (c : Content) (loaded : loading f m ≡ ok c)
           rows-in lineWords 2 (λ _. refl) (omega arith) (m .lines) (tablesOf c .lines) (room .lines) (row .lines) _ o,
           lines-back (m .lines) (tablesOf c .lines) (row .lines) _ o,
         )
+
+  -- d), of the texts of LVAR and DBG: they "keep their rule", "bytes without any zero"
+  pub name-bytes : (n : ℕ) (t : TextRow) → n < length (stringsOf c) → PlainInside f (getD (stringsOf c) n t)
+  name-bytes n t h = every .strings n t h
+
+  pub file-name-bytes : (n : ℕ) (t : TextRow) → n < length (fileNamesOf c) → PlainInside f (getD (fileNamesOf c) n t)
+  file-name-bytes n t h = every .fileNames n t h
 
   -- past the records there is no row, or one of size 0
   no-record : (i : ℕ) → length (recordsOf c) ≤ i → recordIn (held m c .records) i ≡ refused 22

@@ -9,13 +9,13 @@ use mathlib.Core.Option.{Option, none, some}
 use lib.Dec.{leb, ltb, eqb}
 use lib.ListN.{length, take, drop}
 use borrow.Author.Tests.{leb-true, leb-false, ltb-false, eqb-false}
-use Rattle.format.specs.Bytes.{Answer, ok, refused, Step, has, byte, u16At, u32At}
+use Rattle.format.specs.Bytes.{Answer, ok, refused, Step, has, byte, noZero, u16At, u32At}
 use Rattle.format.specs.Headers as mark
 use Rattle.format.specs.Reading.{Read, Part, andThen, more, inTurn}
 use Rattle.format.specs.Rows.{LineRow}
-use Rattle.format.specs.Irep.{Rec, handler, zeroLast, text, bytes, bigInteger, poolValue, poolEntry, counted, bodyAt, headAt, recordAt, recordsFrom, irepSection}
+use Rattle.format.specs.Irep.{Rec, handler, poolText, symbolText, bytes, bigInteger, poolValue, poolEntry, counted, bodyAt, headAt, recordAt, recordsFrom, irepSection}
 use Rattle.format.specs.Walk.{walk}
-use Rattle.format.specs.Lvar.{noZero, plainText, nameEntry, recordNames, Lvar, lvarSection}
+use Rattle.format.specs.Lvar.{plainText, nameEntry, recordNames, Lvar, lvarSection}
 use Rattle.format.specs.Packed.{packedFrom, packed, packedEntry, keeps}
 use Rattle.format.specs.Debug.{above, fileHead, mapEntry, after, goesOn, mapLines, fileLines, filesFrom, debugRecord, Debug, debugContent, debugSection}
 use Rattle.format.specs.File.{Content, nothing, content, isMark, endSection, once, afterIrep, sectionAt, sections, fileRefusal, fileReading}
@@ -76,11 +76,16 @@ module _ (f : List ℕ) where
   unfolding handler
   handler-low at = tested _ _ (has f at 13) _ 7 tt (λ _. tt)
 
-  text-low : (base at : ℕ) → Low (text f base at)
-  unfolding text
-  text-low base at =
+  string-low : (base at : ℕ) → Low (poolText f base at)
+  unfolding poolText
+  string-low base at =
       let n = u16At f at in
-      tested _ _ (has f at 2) _ 7 tt (λ _. tested _ _ (has f (at + 2) (n + 1)) _ 7 tt (λ _. tested _ _ (zeroLast f n (at + 2)) _ 9 tt (λ _. tt)))
+      tested _ _ (has f at 2) _ 7 tt (λ _. tested _ _ (has f (at + 2) (n + 1)) _ 7 tt (λ _. tested _ _ (eqb (byte f (at + 2 + n)) 0) _ 9 tt (λ _. tt)))
+
+  symbol-low : (base at : ℕ) → Low (symbolText f base at)
+  unfolding symbolText
+  symbol-low base at =
+      chained _ _ _ (poolText f base at) _ (string-low base at) (λ s _. tested _ _ (noZero f (s .it .length) (at + 2)) _ 9 tt (λ _. tt))
 
   bytes-low : (base at n : ℕ) → Low (bytes f base at n)
   bytes-low base at n = tested _ _ (has f at n) _ 7 tt (λ _. tt)
@@ -92,8 +97,8 @@ module _ (f : List ℕ) where
   value-low : (base k at : ℕ) → Low (poolValue f base k at)
   unfolding poolValue
   value-low base k at =
-      either Low (eqb k 0) _ _ (λ _. text-low base at)
-      (λ _. either Low (eqb k 2) _ _ (λ _. text-low base at)
+      either Low (eqb k 0) _ _ (λ _. string-low base at)
+      (λ _. either Low (eqb k 2) _ _ (λ _. string-low base at)
       (λ _. either Low (eqb k 1) _ _ (λ _. bytes-low base at 4)
       (λ _. either Low (eqb k 3) _ _ (λ _. bytes-low base at 8)
       (λ _. either Low (eqb k 5) _ _ (λ _. bytes-low base at 8)
@@ -114,10 +119,10 @@ module _ (f : List ℕ) where
   body-low base clen at =
       let h = inTurn (handler f) clen at in
       let pool = counted f (poolEntry f base) in
-      let symbols = counted f (text f base) in
+      let symbols = counted f (symbolText f base) in
       andThen-ends _ _ (andThen (h .end) pool .end) symbols
       (andThen-ends _ _ (h .end) pool (inTurn-low (handler f) handler-low clen at) (λ next _. counted-low (poolEntry f base) (entry-low base) next))
-      (λ next _. counted-low (text f base) (text-low base) next)
+      (λ next _. counted-low (symbolText f base) (symbol-low base) next)
 
   record-behind : (base at : ℕ) → Behind at (recordAt f base at .end)
   unfolding recordAt

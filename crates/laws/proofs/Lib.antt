@@ -10,4 +10,5 @@ pub mod Endings
 pub mod Counts
 pub mod Refusals
 pub mod Header
+pub mod Constants
 pub mod Samples

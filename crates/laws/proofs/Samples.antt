@@ -1,23 +1,25 @@
--- Paper 01's starred samples, as one table of the definitions, with some that it does not star, those of ident and size as paper 02's g) has them;
--- and sample A as a file that passes.
+-- Paper 01's starred samples, as one table of the definitions, with some that it does not star, those of ident and size as paper 02's g) has them,
+-- and constants as its d) reads them; and sample A as a file that passes.
 -- Assumes nothing.
 use Prim.Native.Nat.{ℕ}
 use mathlib.Core.Path.{_≡_, refl}
 use mathlib.Core.Bool.{true, false}
 use mathlib.Core.List.{List, [], _∷_, _++_}
 use mathlib.Core.Option.{none, some}
+use lib.IntN.{pos, negsuc}
 use lib.ListN.{replicate, take, set}
-use Rattle.format.specs.Bytes.{ok, refused, step}
-use Rattle.format.specs.Rows.{lineRow}
+use Rattle.format.specs.Bytes.{Answer, ok, refused, step, noZero, int64At}
+use Rattle.format.specs.Rows.{textRow, lineRow}
 use Rattle.format.specs.Insn.{W, S, table, row, operands, opcode, rest, lastOf, jump, target, insn, fetchAs, fetch}
-use Rattle.format.specs.Irep.{handler, zeroLast, text, bigInteger, poolValue, poolEntry, counted, headAt, bodyAt, recordAt, recordsFrom, irepSection}
+use Rattle.format.specs.Irep.{handler, poolText, symbolText, bigInteger, poolValue, poolEntry, counted, headAt, bodyAt, recordAt, recordsFrom, irepSection}
 use Rattle.format.specs.Walk.{walk}
-use Rattle.format.specs.Lvar.{noZero, plainText, nameEntry, recordNames, lvarSection}
+use Rattle.format.specs.Lvar.{plainText, nameEntry, recordNames, lvarSection}
 use Rattle.format.specs.Packed.{packedFrom, packed, packedEntry}
 use Rattle.format.specs.Debug.{fileHead, mapEntry, mapLines, filesFrom, debugRecord, debugContent, debugSection}
 use Rattle.format.specs.File.{endSection, sectionAt, sections, fileRefusal, fileReading}
 use Rattle.format.specs.Load.{Nine, fits, ending, loading, load}
 use Rattle.format.specs.Line.{halve, lineAt, rising}
+use Rattle.format.specs.Lookup.{recordIn, rowIn, bytesIn, Constant, text, int, constantAt, constantOf, pool}
 use Rattle.format.specs.Tree.{layout, whole, span, childOf}
 use Rattle.format.specs.Pattern.{Record, patternOf, reach, lands}
 use Rattle.format.specs.Exam.{FilePasses, readable, below, allBelow, operandsBelow, follows, firstAt, firstOf, exam16, exam1718, exam19, exam20}
@@ -48,6 +50,28 @@ endAlone n size = take 20 (sized n) ++ 69 ∷ 78 ∷ 68 ∷ 0 ∷ 0 ∷ 0 ∷ 0 
 lent : ℕ → Nine
 lent n = record { records = n; handlers = 0; pool = 0; symbols = 0; strings = 0; names = 0; fileNames = 0; files = 0; lines = 0 }
 
+-- Paper 02, d): A's record with two constants, the int64 258 with its high byte first and the string "a\0b"; the byte behind the string stands
+-- at place 69
+fileD : List ℕ
+fileD =
+    82 ∷ 73 ∷ 84 ∷ 69 ∷ 48 ∷ 52 ∷ 48 ∷ 48 ∷ 0 ∷ 0 ∷ 0 ∷ 80 ∷ 0 ∷ 0 ∷ 0 ∷ 0 ∷ 0 ∷ 0 ∷ 0 ∷ 0
+    ∷ 73 ∷ 82 ∷ 69 ∷ 80 ∷ 0 ∷ 0 ∷ 0 ∷ 52 ∷ 0 ∷ 0 ∷ 0 ∷ 0
+    ∷ 0 ∷ 0 ∷ 0 ∷ 40 ∷ 0 ∷ 1 ∷ 0 ∷ 2 ∷ 0 ∷ 0 ∷ 0 ∷ 0 ∷ 0 ∷ 0 ∷ 0 ∷ 4 ∷ 17 ∷ 1 ∷ 61 ∷ 1
+    ∷ 0 ∷ 2 ∷ 3 ∷ 0 ∷ 0 ∷ 0 ∷ 0 ∷ 0 ∷ 0 ∷ 1 ∷ 2 ∷ 0 ∷ 0 ∷ 3 ∷ 97 ∷ 0 ∷ 98 ∷ 0 ∷ 0 ∷ 0
+    ∷ 69 ∷ 78 ∷ 68 ∷ 0 ∷ 0 ∷ 0 ∷ 0 ∷ 8 ∷ []
+
+-- tables with so many words for records and for constants
+lentPool : ℕ → ℕ → Nine
+lentPool n k = record { records = n; handlers = 0; pool = k; symbols = 0; strings = 0; names = 0; fileNames = 0; files = 0; lines = 0 }
+
+-- constant j of D, over the tables that its load leaves
+constantD : ℕ → Answer Constant
+constantD j = let t = load fileD (lentPool 19 6) .tables in pool fileD (t .records) (t .pool) 0 j
+
+-- the bytes of "a\0b" with its length before it and its zero behind it
+zeroInside : List ℕ
+zeroInside = 0 ∷ 3 ∷ 97 ∷ 0 ∷ 98 ∷ 0 ∷ []
+
 -- a pattern of one record with these instructions
 alone : List ℕ → List Record
 alone c = record { nregs = 2; rlen = 0; npool = 0; nsyms = 0; code = c; handlers = []; lines = [] } ∷ []
@@ -69,6 +93,17 @@ record Table : Type 0 where
   a-no-ident : load (set fileA 3 70) (lent 38) .answer ≡ refused 27
   ident-before-size : load (set (sized 65) 0 114) (lent 38) .answer ≡ refused 27
   size-before-major : load (set (sized 65) 5 51) (lent 38) .answer ≡ refused 28
+  d-loads : load fileD (lentPool 19 6) .answer ≡ ok (lentPool 1 2)
+  d-rows : load fileD (lentPool 19 6) .tables .pool ≡ 3 ∷ 55 ∷ 8 ∷ 0 ∷ 66 ∷ 3 ∷ []
+  d-int64 : constantD 0 ≡ ok (int (pos 258))
+  d-string : constantD 1 ≡ ok (text (textRow 66 3))
+  d-not-ended : load (set fileD 69 1) (lentPool 19 6) .answer ≡ refused 9
+  string-inner-zero : poolText zeroInside 0 0 ≡ ok (step (textRow 2 3) 6)
+  symbol-inner-zero : symbolText zeroInside 0 0 ≡ refused 9
+  name-inner-zero : plainText zeroInside 0 0 ≡ refused 9
+  int64-low-byte-first : int64At (2 ∷ 1 ∷ 0 ∷ 0 ∷ 0 ∷ 0 ∷ 0 ∷ 0 ∷ []) 0 ≡ pos 144396663052566528
+  int64-below-0 : int64At (255 ∷ 255 ∷ 255 ∷ 255 ∷ 255 ∷ 255 ∷ 255 ∷ 254 ∷ []) 0 ≡ negsuc 1
+  int64-lowest : int64At (128 ∷ 0 ∷ 0 ∷ 0 ∷ 0 ∷ 0 ∷ 0 ∷ 0 ∷ []) 0 ≡ negsuc 9223372036854775807
   packed-two : packed (129 ∷ 1 ∷ []) 0 ≡ ok (step 129 2)
   packed-most : packed (255 ∷ 255 ∷ 255 ∷ 255 ∷ 15 ∷ []) 0 ≡ ok (step 4294967295 5)
   packed-dropped : packed (255 ∷ 255 ∷ 255 ∷ 255 ∷ 127 ∷ []) 0 ≡ ok (step 4294967295 5)
@@ -98,10 +133,10 @@ record Table : Type 0 where
   cut : choices (3 ∷ 1 ∷ []) ≡ refused 21
 
 samples : Table
-unfolding table row operands opcode rest lastOf jump target fetchAs fetch packedFrom packed halve lineAt handler zeroLast text bigInteger poolValue
+unfolding table row operands opcode rest lastOf jump target fetchAs fetch packedFrom packed halve lineAt handler poolText symbolText bigInteger poolValue
     poolEntry counted headAt bodyAt recordAt recordsFrom irepSection walk noZero plainText nameEntry recordNames lvarSection fileHead mapEntry
     mapLines filesFrom debugRecord debugContent debugSection packedEntry endSection sectionAt sections fileRefusal fileReading fits ending loading load sized
-    endAlone lent alone
+    endAlone lent alone fileD lentPool constantD zeroInside recordIn rowIn bytesIn constantAt constantOf pool
     rising layout span childOf reach lands readable below allBelow operandsBelow follows firstAt firstOf exam16 exam1718 exam19 exam20 examineRecord
     examineAll examinePattern passing examining examine childOperand move oneStep runFrom choicesFrom standing laidFrames frameTable following follow
 samples = record {
@@ -121,6 +156,17 @@ samples = record {
   a-no-ident = refl;
   ident-before-size = refl;
   size-before-major = refl;
+  d-loads = refl;
+  d-rows = refl;
+  d-int64 = refl;
+  d-string = refl;
+  d-not-ended = refl;
+  string-inner-zero = refl;
+  symbol-inner-zero = refl;
+  name-inner-zero = refl;
+  int64-low-byte-first = refl;
+  int64-below-0 = refl;
+  int64-lowest = refl;
   packed-two = refl;
   packed-most = refl;
   packed-dropped = refl;

@@ -2,54 +2,70 @@
 -- Assumes nothing.
 use Prim.Native.Nat.{ℕ, zero, suc, _+_, _-_, _/_, _≤_, _<_}
 use native.Mathlib.Omega.{arith}
-use mathlib.Core.Path.{_≡_, refl}
+use mathlib.Core.Path.{_≡_, refl, sym, _∙_}
 use mathlib.Core.Logic.{_⊎_, inl, inr}
 use mathlib.Core.Bool.{Bool, true, false, cond, _||_}
 use mathlib.Core.List.{List, [], _∷_}
 use mathlib.Core.Option.{Option, none, some}
 use lib.Dec.{T, leb, ltb, eqb, leb→le}
 use lib.ListN.{length, getD, take, drop, length-drop}
-use lib.Seq.{length-take-le}
+use lib.Seq.{length-take-le, getD-take, getD-drop}
 use borrow.Author.Tests.{leb-true, ltb-true, eqb-true}
-use Rattle.format.specs.Bytes.{Answer, ok, refused, onAnswer, Step, has, byte, u16At, u32At}
+use Rattle.format.specs.Bytes.{Answer, ok, refused, onAnswer, Step, has, byte, noZero, u16At, u32At}
 use Rattle.format.specs.Headers as mark
 use Rattle.format.specs.Reading.{Read, reading, Part, part, add, andThen, inTurn}
-use Rattle.format.specs.Rows.{PoolRow, TextRow, NameRow}
-use Rattle.format.specs.Irep.{handler, zeroLast, text, bigInteger, poolValue, poolEntry, counted, headAt, Body, Rec, bodyAt, recordAt, recordsFrom, irepSection}
+use Rattle.format.specs.Rows.{PoolRow, TextRow, textRow, NameRow}
+use Rattle.format.specs.Irep.{handler, poolText, symbolText, bigInteger, poolValue, poolEntry, counted, headAt, Body, Rec, bodyAt, recordAt, recordsFrom, irepSection}
 use Rattle.format.specs.Walk.{walk}
-use Rattle.format.specs.Lvar.{noZero, plainText, nameEntry, recordNames, Lvar, lvarSection}
+use Rattle.format.specs.Lvar.{plainText, nameEntry, recordNames, Lvar, lvarSection}
 use Rattle.format.specs.Debug.{FileHead, above, fileHead, fileLines, File, filesFrom, debugRecord, Debug, debugContent, debugSection}
 use Rattle.format.specs.File.{Content, isMark, once, afterIrep, sectionAt, nothing, fileReading}
 use Rattle.format.specs.Load.{Nine, recordsOf, stringsOf, namesOf, fileNamesOf, filesOf, tablesOf, used, fits, ending, loading}
 use Rattle.format.proofs.Table.{both}
 use Rattle.format.proofs.Answers.{ok-refused, either, Answers, tested, chained, inTurn-all}
+use Rattle.format.proofs.Texts.{NoZero, no-zero, StringAt, string-at}
 use Rattle.layout.proofs.Ends.{bind-ok, andThen-ok, Each, each-none, each-more, inTurn-each, Good, GoodRows, reading-keeps, reading-accepted}
 
--- bytes inside a file of n bytes
-abbrev pub TextInside : ℕ → TextRow → Type 0
-TextInside n t = t .place + t .length ≤ n
+-- bytes inside the file f
+abbrev pub TextInside : List ℕ → TextRow → Type 0
+TextInside f t = t .place + t .length ≤ length f
 
--- a pool entry of a kind that the format knows; a number has its kind's length
-pub data Known (q : PoolRow) : Type 0 where
-  string : q .kind ≡ 0 → Known q
-  static-string : q .kind ≡ 2 → Known q
-  int32 : q .kind ≡ 1 → q .length ≡ 4 → Known q
-  int64 : q .kind ≡ 3 → q .length ≡ 8 → Known q
-  float64 : q .kind ≡ 5 → q .length ≡ 8 → Known q
-  big-integer : q .kind ≡ 7 → Known q
+-- a string: the byte behind its bytes is inside too, and zero
+pub record StringInside (f : List ℕ) (t : TextRow) : Type 0 where
+  pub inside : t .place + t .length < length f
+  pub ended : byte f (t .place + t .length) ≡ 0
+
+-- a symbol: so it ends, and none of its bytes is zero
+pub record SymbolInside (f : List ℕ) (t : TextRow) : Type 0 where
+  pub string : StringInside f t
+  pub bytes : NoZero f (t .length) (t .place)
+
+-- a local name or a file name: none of its bytes is zero
+pub record PlainInside (f : List ℕ) (t : TextRow) : Type 0 where
+  pub inside : TextInside f t
+  pub bytes : NoZero f (t .length) (t .place)
+
+-- a pool entry of a kind that the format knows; a string ends as strings do, a number has its kind's length
+pub data Known (f : List ℕ) (q : PoolRow) : Type 0 where
+  string : q .kind ≡ 0 → StringInside f (textRow (q .place) (q .length)) → Known f q
+  static-string : q .kind ≡ 2 → StringInside f (textRow (q .place) (q .length)) → Known f q
+  int32 : q .kind ≡ 1 → q .length ≡ 4 → Known f q
+  int64 : q .kind ≡ 3 → q .length ≡ 8 → Known f q
+  float64 : q .kind ≡ 5 → q .length ≡ 8 → Known f q
+  big-integer : q .kind ≡ 7 → Known f q
 
 -- and its value's bytes inside the file
-pub record PoolInside (n : ℕ) (q : PoolRow) : Type 0 where
-  pub bytes : q .place + q .length ≤ n
-  pub known : Known q
+pub record PoolInside (f : List ℕ) (q : PoolRow) : Type 0 where
+  pub bytes : q .place + q .length ≤ length f
+  pub known : Known f q
 
--- a record of a file of n bytes
-pub record RecInside (n : ℕ) (r : Rec) : Type 0 where
-  pub bytes : r .place + r .head .ilen ≤ n
+-- a record of the file f
+pub record RecInside (f : List ℕ) (r : Rec) : Type 0 where
+  pub bytes : r .place + r .head .ilen ≤ length f
   pub sized : 0 < r .head .size
   pub handlers : length (r .body .handlers) ≡ r .head .clen
-  pub pool : Each (PoolInside n) (r .body .pool)
-  pub symbols : Each (TextInside n) (r .body .symbols)
+  pub pool : Each (PoolInside f) (r .body .pool)
+  pub symbols : Each (SymbolInside f) (r .body .symbols)
 
 -- "each a string index or 65535 for unnamed"
 abbrev pub NameInside : ℕ → NameRow → Type 0
@@ -62,17 +78,17 @@ FileInside count x = x .name < count
 -- What was read of a file f: its records, strings, names, file names and debug files.
 pub record Inside (f : List ℕ) (c : Content) : Type 0 where
   pub small : length f ≤ 65536
-  pub records : Each (RecInside (length f)) (recordsOf c)
-  pub strings : Each (TextInside (length f)) (stringsOf c)
+  pub records : Each (RecInside f) (recordsOf c)
+  pub strings : Each (PlainInside f) (stringsOf c)
   pub names : Each (Each (NameInside (length (stringsOf c)))) (namesOf c)
-  pub fileNames : Each (TextInside (length f)) (fileNamesOf c)
+  pub fileNames : Each (PlainInside f) (fileNamesOf c)
   pub files : Each (Each (FileInside (length (fileNamesOf c)))) (filesOf c)
 
 -- the lists of a record
-record Lists (n clen : ℕ) (b : Body) : Type 0 where
+record Lists (f : List ℕ) (clen : ℕ) (b : Body) : Type 0 where
   handlers : length (b .handlers) ≡ clen
-  pool : Each (PoolInside n) (b .pool)
-  symbols : Each (TextInside n) (b .symbols)
+  pool : Each (PoolInside f) (b .pool)
+  symbols : Each (SymbolInside f) (b .symbols)
 
 -- rows behind a reading, refused or not
 andThen-each : {R : Type 0} (P : R → Type 0) (e : Answer ℕ) (k : ℕ → Read R) → ((at : ℕ) → Each P (k at .rows)) → Each P (andThen e k .rows)
@@ -86,41 +102,57 @@ false-true e = let z : _≡_ {A = ℕ} 0 1 = cc in omega arith
 left : (f : List ℕ) (at n : ℕ) → has f at n ≡ true → n ≤ length f - at
 left f at n e = leb-true n (length f - at) e
 
--- f is a part of a file of n bytes, and stands at base there
-module _ (f : List ℕ) (base n : ℕ) (part-of : 0 < length f → base + length f ≤ n) where
-  -- what ends inside the part, a byte at least from its start on, ends inside the file
-  ends-inside : (at : ℕ) → 0 < at → at ≤ length f → base + at ≤ n
-  ends-inside at h g = let w = part-of (omega arith) in omega arith
+-- f is a part of the file `all`, and stands at base there
+abbrev PartOf : List ℕ → ℕ → List ℕ → Type 0
+PartOf f base all = (at : ℕ) → at < length f → (base + at < length all) × (byte all (base + at) ≡ byte f at)
 
-  text-inside : (at : ℕ) → Answers (λ s. TextInside n (s .it)) (text f base at)
-  unfolding text
-  text-inside at =
-      tested _ _ (has f at 2) _ 7 tt (λ a. tested _ _ (has f (at + 2) (u16At f at + 1)) _ 7 tt (λ b. tested _ _ (zeroLast f (u16At f at) (at + 2)) _ 9 tt (λ _.
-      let p = left f at 2 a in
-      let q = left f (at + 2) (u16At f at + 1) b in
-      omega (arith, ends-inside (at + 2 + u16At f at) (omega arith) (omega arith)))))
+module _ (f : List ℕ) (base : ℕ) (all : List ℕ) (part-of : PartOf f base all) where
+  -- what ends inside the part, a byte at least from its start on, ends inside the file
+  ends-inside : (at : ℕ) → 0 < at → at ≤ length f → base + at ≤ length all
+  ends-inside at h g = let w = part-of (at - 1) (omega arith) .0 in omega arith
+
+  -- bytes of the part are bytes of the file
+  no-zero-inside : (n at : ℕ) → at + n ≤ length f → noZero f n at ≡ true → NoZero all n (base + at)
+  no-zero-inside n at h e i g =
+      let w = part-of (at + i) (omega arith) .1 in
+      let k : base + at + i ≡ base + (at + i) = omega arith in
+      rw (k, w) (no-zero f n at e i g)
+
+  string-inside : (at : ℕ) (t : TextRow) → StringAt f base at t → StringInside all t
+  string-inside at t x =
+      let p = x .place in
+      let w = part-of (at + 2 + t .length) (x .inside) in
+      let k : t .place + t .length ≡ base + (at + 2 + t .length) = omega arith in
+      record { inside = rw k (w .0); ended = rw (k, w .1) (x .ended) }
+
+  symbol-inside : (at : ℕ) → Answers (λ s. SymbolInside all (s .it)) (symbolText f base at)
+  unfolding symbolText
+  symbol-inside at =
+      chained _ _ _ (poolText f base at) _ (string-at f base at) (λ s x. tested _ _ (noZero f (s .it .length) (at + 2)) _ 9 tt (λ e.
+      let g = x .inside in
+      record { string = string-inside at (s .it) x; bytes = rw (x .place) (no-zero-inside (s .it .length) (at + 2) (omega arith) e) }))
 
   -- a value of k bytes, one at least
-  bytes-inside : (at k : ℕ) → 0 < k → has f at k ≡ true → base + at + k ≤ n
+  bytes-inside : (at k : ℕ) → 0 < k → has f at k ≡ true → base + at + k ≤ length all
   bytes-inside at k h a = let p = left f at k a in omega (arith, ends-inside (at + k) (omega arith) (omega arith))
 
   abbrev entry : ℕ → Step TextRow → PoolRow
   entry k v = record { kind = k; place = v .it .place; length = v .it .length }
 
-  -- a text as a pool entry
-  string-inside : (k at : ℕ) → ((v : Step TextRow) → Known (entry k v)) → Answers (λ v. PoolInside n (entry k v)) (text f base at)
-  string-inside k at h = go (text f base at) (text-inside at)
+  -- a string as a pool entry
+  string-entry : (k at : ℕ) → ((v : Step TextRow) → StringInside all (v .it) → Known all (entry k v)) → Answers (λ v. PoolInside all (entry k v)) (poolText f base at)
+  string-entry k at h = go (poolText f base at) (string-at f base at)
     where
-      go : (a : Answer (Step TextRow)) → Answers (λ s. TextInside n (s .it)) a → Answers (λ v. PoolInside n (entry k v)) a
-      go (ok v) x = record { bytes = x; known = h v }
+      go : (a : Answer (Step TextRow)) → Answers (λ s. StringAt f base at (s .it)) a → Answers (λ v. PoolInside all (entry k v)) a
+      go (ok v) x = let y = string-inside at (v .it) x in let g = y .inside in record { bytes = omega arith; known = h v y }
       go (refused e) x = tt
 
-  value-inside : (k at : ℕ) → Answers (λ v. PoolInside n (entry k v)) (poolValue f base k at)
+  value-inside : (k at : ℕ) → Answers (λ v. PoolInside all (entry k v)) (poolValue f base k at)
   unfolding poolValue bigInteger
   value-inside k at =
-      let P : Answer (Step TextRow) → Type 0 = Answers (λ v. PoolInside n (entry k v)) in
-      either P (eqb k 0) _ _ (λ e. string-inside k at (λ v. string (eqb-true k 0 e))) (λ _.
-      either P (eqb k 2) _ _ (λ e. string-inside k at (λ v. static-string (eqb-true k 2 e))) (λ _.
+      let P : Answer (Step TextRow) → Type 0 = Answers (λ v. PoolInside all (entry k v)) in
+      either P (eqb k 0) _ _ (λ e. string-entry k at (λ v. string (eqb-true k 0 e))) (λ _.
+      either P (eqb k 2) _ _ (λ e. string-entry k at (λ v. static-string (eqb-true k 2 e))) (λ _.
       either P (eqb k 1) _ _
       (λ e. tested _ _ (has f at 4) _ 7 tt (λ a. record { bytes = bytes-inside at 4 (omega arith) a; known = int32 (eqb-true k 1 e) refl })) (λ _.
       either P (eqb k 3) _ _
@@ -132,7 +164,7 @@ module _ (f : List ℕ) (base n : ℕ) (part-of : 0 < length f → base + length
       record { bytes = bytes-inside (at + 1) (byte f at + 1) (omega arith) a; known = big-integer (eqb-true k 7 e) })))
       (λ _. tt))))))
 
-  entry-inside : (at : ℕ) → Answers (λ s. PoolInside n (s .it)) (poolEntry f base at)
+  entry-inside : (at : ℕ) → Answers (λ s. PoolInside all (s .it)) (poolEntry f base at)
   unfolding poolEntry
   entry-inside at = tested _ _ (has f at 1) _ 7 tt (λ _. chained _ _ _ (poolValue f base (byte f at) (at + 1)) _ (value-inside (byte f at) (at + 1)) (λ v x. x))
 
@@ -140,23 +172,23 @@ module _ (f : List ℕ) (base n : ℕ) (part-of : 0 < length f → base + length
   unfolding counted
   counted-each P p x at = either (λ (r : Read _). Each P (r .rows)) (has f at 2) _ _ (λ _. inTurn-each P p x (u16At f at) (at + 2)) (λ _. each-none P)
 
-  body-inside : (clen at : ℕ) → Good (Lists n clen) (bodyAt f base clen at)
+  body-inside : (clen at : ℕ) → Good (Lists all clen) (bodyAt f base clen at)
   unfolding bodyAt
   body-inside clen at to e =
       let h = inTurn (handler f) clen at in
       let p = andThen (h .end) (counted f (poolEntry f base)) in
-      let x = andThen-ok (p .end) (counted f (text f base)) to e in
+      let x = andThen-ok (p .end) (counted f (symbolText f base)) to e in
       let y = andThen-ok (h .end) (counted f (poolEntry f base)) (x .0) (x .1) in
       record {
         handlers = inTurn-all (handler f) clen at (y .0) (y .1);
-        pool = andThen-each (PoolInside n) (h .end) (counted f (poolEntry f base)) (counted-each (PoolInside n) (poolEntry f base) entry-inside);
-        symbols = andThen-each (TextInside n) (p .end) (counted f (text f base)) (counted-each (TextInside n) (text f base) text-inside);
+        pool = andThen-each (PoolInside all) (h .end) (counted f (poolEntry f base)) (counted-each (PoolInside all) (poolEntry f base) entry-inside);
+        symbols = andThen-each (SymbolInside all) (p .end) (counted f (symbolText f base)) (counted-each (SymbolInside all) (symbolText f base) symbol-inside);
       }
 
-  record-inside : (at : ℕ) → has f at 16 ≡ true → Good (RecInside n) (recordAt f base at)
+  record-inside : (at : ℕ) → has f at 16 ≡ true → Good (RecInside all) (recordAt f base at)
   unfolding recordAt
   record-inside at a =
-      either (Good (RecInside n)) (has f (at + 16) (headAt f at .ilen)) _ _
+      either (Good (RecInside all)) (has f (at + 16) (headAt f at .ilen)) _ _
       (λ b to e.
       let h = headAt f at in
       let x = bind-ok (bodyAt f base (h .clen) (at + 16 + h .ilen) .end) (λ _. cond (eqb (h .size) 0) (refused 8) (ok (at + h .size))) to e in
@@ -176,23 +208,23 @@ module _ (f : List ℕ) (base n : ℕ) (part-of : 0 < length f → base + length
       nonzero zero m to e = absurd (ok-refused e)
       nonzero (suc k) m to e = omega arith
 
-  records-from : (size m at : ℕ) → GoodRows (Each (RecInside n)) (recordsFrom f base size m at)
+  records-from : (size m at : ℕ) → GoodRows (Each (RecInside all)) (recordsFrom f base size m at)
   unfolding recordsFrom
-  records-from size zero at = λ to e. each-none (RecInside n)
+  records-from size zero at = λ to e. each-none (RecInside all)
   records-from size (suc m) at =
-      either (GoodRows (Each (RecInside n))) (leb size at) _ _ (λ _ to e. each-none (RecInside n)) (λ _.
-      either (GoodRows (Each (RecInside n))) (has f at 16) _ _
+      either (GoodRows (Each (RecInside all))) (leb size at) _ _ (λ _ to e. each-none (RecInside all)) (λ _.
+      either (GoodRows (Each (RecInside all))) (has f at 16) _ _
       (λ a to e.
       let r = recordAt f base at in
       let x = andThen-ok (r .end) (recordsFrom f base size m) to e in
-      each-more (RecInside n) (r .it) (andThen (r .end) (recordsFrom f base size m) .rows) (record-inside at a (x .0) (x .1)) (rw (x .1) (records-from size m (x .0) to (x .2))))
+      each-more (RecInside all) (r .it) (andThen (r .end) (recordsFrom f base size m) .rows) (record-inside at a (x .0) (x .1)) (rw (x .1) (records-from size m (x .0) to (x .2))))
       (λ _ to e. absurd (ok-refused e)))
 
-  pub irep-inside : GoodRows (Each (RecInside n)) (irepSection f base)
+  pub irep-inside : GoodRows (Each (RecInside all)) (irepSection f base)
   unfolding irepSection
   irep-inside =
-      either (GoodRows (Each (RecInside n))) (has f 0 12) _ _
-      (λ _. either (GoodRows (Each (RecInside n))) (leb (u32At f 4) (length f)) _ _
+      either (GoodRows (Each (RecInside all))) (has f 0 12) _ _
+      (λ _. either (GoodRows (Each (RecInside all))) (leb (u32At f 4) (length f)) _ _
       (λ _ to e.
       let x = bind-ok (recordsFrom f base (u32At f 4) (length f) 12 .end) (λ _. cond (eqb (u32At f 4) 0) (refused 8) (ok (u32At f 4))) to e in
       records-from (u32At f 4) (length f) 12 (x .0) (x .1))
@@ -200,13 +232,14 @@ module _ (f : List ℕ) (base n : ℕ) (part-of : 0 < length f → base + length
       (λ _ to e. absurd (ok-refused e))
 
   -- strings and file names
-  plain-inside : (at : ℕ) → Answers (λ s. TextInside n (s .it)) (plainText f base at)
+  plain-inside : (at : ℕ) → Answers (λ s. PlainInside all (s .it)) (plainText f base at)
   unfolding plainText
   plain-inside at =
-      tested _ _ (has f at 2) _ 7 tt (λ a. tested _ _ (has f (at + 2) (u16At f at)) _ 7 tt (λ b. tested _ _ (noZero f (u16At f at) (at + 2)) _ 9 tt (λ _.
+      let n = u16At f at in
+      tested _ _ (has f at 2) _ 7 tt (λ a. tested _ _ (has f (at + 2) n) _ 7 tt (λ b. tested _ _ (noZero f n (at + 2)) _ 9 tt (λ e.
       let p = left f at 2 a in
-      let q = left f (at + 2) (u16At f at) b in
-      omega (arith, ends-inside (at + 2 + u16At f at) (omega arith) (omega arith)))))
+      let q = left f (at + 2) n b in
+      record { inside = omega (arith, ends-inside (at + 2 + n) (omega arith) (omega arith)); bytes = no-zero-inside n (at + 2) (omega arith) e })))
 
 -- a walk, refused or not: what holds of all that a visit reads
 walk-each : {R : Type 0} (P : R → Type 0) (visit : Rec → ℕ → Part (List R)) → ((r : Rec) (at : ℕ) → Each P (visit r at .it))
@@ -239,15 +272,15 @@ names-inside f count r at =
     (λ _. each-none (NameInside count))
     (λ _. inTurn-each (NameInside count) (nameEntry f count) (name-inside f count) (r .head .nlocals - 1) at)
 
--- an LVAR section of a file of n bytes
-record LvarInside (n : ℕ) (l : Lvar) : Type 0 where
-  strings : Each (TextInside n) (l .strings)
+-- an LVAR section of the file f
+record LvarInside (f : List ℕ) (l : Lvar) : Type 0 where
+  strings : Each (PlainInside f) (l .strings)
   names : Each (Each (NameInside (length (l .strings)))) (l .names)
 
-lvar-inside : (f : List ℕ) (base n : ℕ) (part-of : 0 < length f → base + length f ≤ n) (rs : List Rec) → Good (LvarInside n) (lvarSection f base rs)
+lvar-inside : (f : List ℕ) (base : ℕ) (all : List ℕ) → PartOf f base all → (rs : List Rec) → Good (LvarInside all) (lvarSection f base rs)
 unfolding lvarSection
-lvar-inside f base n part-of rs =
-    either (Good (LvarInside n)) (has f 0 12) _ _
+lvar-inside f base all part-of rs =
+    either (Good (LvarInside all)) (has f 0 12) _ _
     (λ _ to e.
     let s = inTurn (plainText f base) (u32At f 8) 12 in
     let k = walk (recordNames f (u32At f 8)) (λ _. false) rs 1 in
@@ -255,7 +288,7 @@ lvar-inside f base n part-of rs =
     let y = andThen-ok (s .end) k (x .0) (x .1) in
     let z = inTurn-all (plainText f base) (u32At f 8) 12 (y .0) (y .1) in
     record {
-      strings = inTurn-each (TextInside n) (plainText f base) (plain-inside f base n part-of) (u32At f 8) 12;
+      strings = inTurn-each (PlainInside all) (plainText f base) (plain-inside f base all part-of) (u32At f 8) 12;
       names = rw z (andThen-each (Each (NameInside (u32At f 8))) (s .end) k (walk-each (NameInside (u32At f 8)) (recordNames f (u32At f 8)) (names-inside f (u32At f 8)) (λ _. false) rs 1));
     })
     (λ _ to e. absurd (ok-refused e))
@@ -289,15 +322,15 @@ record-files-inside s names r at =
     (λ _. files-inside s names (u16At s (at + 4)) none (at + 6))
     (λ _. each-none (FileInside names))
 
--- a DBG section of a file of n bytes
-record DebugInside (n : ℕ) (d : Debug) : Type 0 where
-  fileNames : Each (TextInside n) (d .fileNames)
+-- a DBG section of the file f
+record DebugInside (f : List ℕ) (d : Debug) : Type 0 where
+  fileNames : Each (PlainInside f) (d .fileNames)
   files : Each (Each (FileInside (length (d .fileNames)))) (d .files)
 
-content-inside : (s : List ℕ) (base n : ℕ) (part-of : 0 < length s → base + length s ≤ n) (rs : List Rec) → Good (DebugInside n) (debugContent s base rs)
+content-inside : (s : List ℕ) (base : ℕ) (all : List ℕ) → PartOf s base all → (rs : List Rec) → Good (DebugInside all) (debugContent s base rs)
 unfolding debugContent
-content-inside s base n part-of rs =
-    either (Good (DebugInside n)) (has s 8 2) _ _
+content-inside s base all part-of rs =
+    either (Good (DebugInside all)) (has s 8 2) _ _
     (λ _ to e.
     let t = inTurn (plainText s base) (u16At s 8) 10 in
     let k = walk (debugRecord s (u16At s 8)) (leb (length s)) rs 1 in
@@ -305,21 +338,22 @@ content-inside s base n part-of rs =
     let y = andThen-ok (t .end) k (x .0) (x .1) in
     let z = inTurn-all (plainText s base) (u16At s 8) 10 (y .0) (y .1) in
     record {
-      fileNames = inTurn-each (TextInside n) (plainText s base) (plain-inside s base n part-of) (u16At s 8) 10;
+      fileNames = inTurn-each (PlainInside all) (plainText s base) (plain-inside s base all part-of) (u16At s 8) 10;
       files = rw z (andThen-each (Each (FileInside (u16At s 8))) (t .end) k (walk-each (FileInside (u16At s 8)) (debugRecord s (u16At s 8)) (record-files-inside s (u16At s 8)) (leb (length s)) rs 1));
     })
     (λ _ to e. absurd (ok-refused e))
 
-debug-inside : (f : List ℕ) (base n : ℕ) (part-of : 0 < length f → base + length f ≤ n) (rs : List Rec) → Good (DebugInside n) (debugSection f base rs)
+debug-inside : (f : List ℕ) (base : ℕ) (all : List ℕ) → PartOf f base all → (rs : List Rec) → Good (DebugInside all) (debugSection f base rs)
 unfolding debugSection
-debug-inside f base n part-of rs =
-    either (Good (DebugInside n)) (has f 0 8) _ _
-    (λ _. either (Good (DebugInside n)) (leb (u32At f 4) (length f)) _ _
-    (λ a. content-inside (take (u32At f 4) f) base n (λ h.
-    let p = leb-true (u32At f 4) (length f) a in
-    let q = length-take-le (u32At f 4) f p in
-    let w = part-of (omega arith) in
-    omega arith) rs)
+debug-inside f base all part-of rs =
+    let size = u32At f 4 in
+    either (Good (DebugInside all)) (has f 0 8) _ _
+    (λ _. either (Good (DebugInside all)) (leb size (length f)) _ _
+    (λ a. content-inside (take size f) base all (λ at h.
+    let p = leb-true size (length f) a in
+    let q = length-take-le size f p in
+    let w = part-of at (omega arith) in
+    (w .0, w .1 ∙ sym (getD-take size f at 0 (omega arith)))) rs)
     (λ _ to e. absurd (ok-refused e)))
     (λ _ to e. absurd (ok-refused e))
 
@@ -338,8 +372,8 @@ module _ (P : Content → Type 0) (c : Content) where
 
 module _ (f : List ℕ) where
   -- the part of the file from a place on
-  drop-part : (at : ℕ) → 0 < length (drop at f) → at + length (drop at f) ≤ length f
-  drop-part at h = let e = length-drop at f in omega arith
+  drop-part : (at : ℕ) → PartOf (drop at f) at f
+  drop-part at i h = let e = length-drop at f in (omega arith, sym (getD-drop at f i 0))
 
   nothing-inside : length f ≤ 65536 → Inside f nothing
   nothing-inside h = record { small = h; records = each-none _; strings = each-none _; names = each-none _; fileNames = each-none _; files = each-none _ }
@@ -349,14 +383,14 @@ module _ (f : List ℕ) where
   section-inside c at x =
       either (Good (Inside f)) (isMark f at mark.irep) _ _
       (λ _. once-good (Inside f) c (c .irep) _ (λ to e.
-      record { small = x .small; records = irep-inside (drop at f) at (length f) (drop-part at) to e; strings = x .strings; names = x .names; fileNames = x .fileNames; files = x .files }))
+      record { small = x .small; records = irep-inside (drop at f) at f (drop-part at) to e; strings = x .strings; names = x .names; fileNames = x .fileNames; files = x .files }))
       (λ _. either (Good (Inside f)) (isMark f at mark.lvar) _ _
       (λ _. afterIrep-good (Inside f) c _ (λ rs. once-good (Inside f) c (c .lvar) _ (λ to e.
-      let l = lvar-inside (drop at f) at (length f) (drop-part at) rs to e in
+      let l = lvar-inside (drop at f) at f (drop-part at) rs to e in
       record { small = x .small; records = x .records; strings = l .strings; names = l .names; fileNames = x .fileNames; files = x .files })))
       (λ _. either (Good (Inside f)) (isMark f at mark.dbg) _ _
       (λ _. afterIrep-good (Inside f) c _ (λ rs. once-good (Inside f) c (c .dbg) _ (λ to e.
-      let d = debug-inside (drop at f) at (length f) (drop-part at) rs to e in
+      let d = debug-inside (drop at f) at f (drop-part at) rs to e in
       record { small = x .small; records = x .records; strings = x .strings; names = x .names; fileNames = d .fileNames; files = d .files })))
       (λ _. either (Good (Inside f)) (isMark f at mark.end) _ _ (λ _ to e. x) (λ _ to e. x))))
 
@@ -366,7 +400,7 @@ reading-inside f to e = reading-keeps f (Inside f) (section-inside f) (nothing-i
 
 -- so each record is; and the file is small
 pub records-inside : (f : List ℕ) (to : ℕ) → fileReading f .end ≡ ok to → (i : ℕ) (d : Rec) → i < length (recordsOf (fileReading f .it))
-    → RecInside (length f) (getD (recordsOf (fileReading f .it)) i d)
+    → RecInside f (getD (recordsOf (fileReading f .it)) i d)
 records-inside f to e = reading-inside f to e .records
 
 pub small : (f : List ℕ) (to : ℕ) → fileReading f .end ≡ ok to → length f ≤ 65536

@@ -1,5 +1,7 @@
 // The line map of one debug file, put into a lent table of words.
 use binfmt::rest;
+use binfmt::u16_in;
+use binfmt::u32_in;
 use line::LastLine;
 use line::Line;
 use line::Pos;
@@ -8,8 +10,6 @@ use line_packed::Entry;
 use line_packed::packed_entry;
 use rows::Rows;
 use rows::put_row;
-use rows::u16_in;
-use rows::u32_in;
 ghost use mathlib.Core.Path.{_≡_};
 ghost use mathlib.Core.Option.{none};
 ghost use Prim.Native.Nat.{_+_, _-_, _<_};

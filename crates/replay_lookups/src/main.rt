@@ -10,8 +10,8 @@ use boundary_steps::BlotheathLine;
 use libc::STDIN_FILENO;
 use libc::STDOUT_FILENO;
 use line::Pos;
-use number::Float64;
 use number::Int64;
+use number_float::Float64;
 use stored::State;
 use stored::ahead;
 use stored::answered;
@@ -114,7 +114,7 @@ fn floats_agree(x: f64, y: f64) -> bool {
 }
 
 fn same_float(x: f64, all: &[u8], at: usize) -> bool {
-    match number::f64_at(all, at) {
+    match number_float::f64_at(all, at) {
         Float64::Value(y) => floats_agree(x, y),
         Float64::Refused(r) => false,
     }

@@ -14,12 +14,12 @@ use borrow.Author.Tests.{lt-ltb, le-ltb, ltb-true, ltb-false}
 use Rattle.format.specs.Bytes.{Answer, ok, refused, bind, Step, step, has, byte, u16At}
 use Rattle.format.specs.Reading.{Read, reading, inTurn}
 use Rattle.format.specs.Rows.{TextRow, flat, tableOf, handlerWords, poolWords, textWords, nameWords}
-use Rattle.format.specs.Irep.{handler, text, poolValue, ofKind, poolEntry, counted}
+use Rattle.format.specs.Irep.{handler, symbolText, poolValue, ofKind, poolEntry, counted}
 use Rattle.format.specs.Lvar.{plainText, nameEntry}
 use Rattle.format.proofs.Places.{flat-length}
 use Rattle.rows.specs.declared.Rows.the-variants.{Next, Refused}
 use Rattle.rows.specs.Table.{Out, out, splice, rowCount, putOf, putStep, times}
-use Rattle.rows.specs.Rows.{spanOf, textOf, plainTextOf, poolValueOf, handlerOf, poolPut, poolOf, textPut, symbolOf, stringOf, nameOf}
+use Rattle.rows.specs.Rows.{spanOf, symbolTextOf, plainTextOf, poolValueOf, handlerOf, poolPut, poolOf, textPut, symbolOf, stringOf, nameOf}
 
 -- how a run over tables goes with a reading's end: it goes on where all fits, stops by the reading's number where all fits, else by 14
 pub data Ran (end : Answer ℕ) (Fits : Type 0) (Went : ℕ → Type 0) (Stopped : ℕ → Type 0) : Type 0 where
@@ -125,9 +125,9 @@ text-put : (v : Answer (Step TextRow)) (u : ℕ) (t : List ℕ) → textPut (spa
 text-put (ok v) u t = refl
 text-put (refused k) u t = refl
 
-pub symbol-agrees : (f : List ℕ) (base at u : ℕ) (t : List ℕ) → symbolOf f base at u t ≡ putStep textWords (text f base at) u t
-unfolding symbolOf textOf
-symbol-agrees f base at u t = text-put (text f base at) u t
+pub symbol-agrees : (f : List ℕ) (base at u : ℕ) (t : List ℕ) → symbolOf f base at u t ≡ putStep textWords (symbolText f base at) u t
+unfolding symbolOf symbolTextOf
+symbol-agrees f base at u t = text-put (symbolText f base at) u t
 
 pub string-agrees : (f : List ℕ) (base at u : ℕ) (t : List ℕ) → stringOf f base at u t ≡ putStep textWords (plainText f base at) u t
 unfolding stringOf plainTextOf

@@ -1,7 +1,7 @@
 -- Laws of `times` and of a table's rows, which every reader's proof cites.
 -- Assumes nothing.
 use Prim.Native.Nat.{ℕ, zero, suc, _+_, _-_, _*_, _/_, _≤_, _<_}
-use mathlib.Core.Path.{_≡_, refl}
+use mathlib.Core.Path.{_≡_, refl, sym, ap, _∙_}
 use mathlib.Core.List.{List}
 use native.Mathlib.Omega.{arith}
 use native.Mathlib.Nat.{le-div-iff-mul-le, suc-mul}
@@ -11,8 +11,13 @@ use mathlib.Core.Bool.{true, false}
 use lib.ListN.{getD}
 use lib.Dec.{eqb}
 use borrow.Author.Tests.{eq-eqb, ne-eqb}
-use Rattle.format.specs.Irep.{zeroLast}
-use Rattle.format.specs.Lvar.{noZero}
+use Rattle.format.specs.Bytes.{Answer, ok, refused, Step, step, noZero}
+use Rattle.format.specs.Rows.{TextRow, textRow}
+use Rattle.format.specs.Irep.{poolText}
+use Rattle.rows.specs.declared.Span.{Span}
+use Rattle.rows.specs.declared.Span.the-variants.{At}
+use Rattle.rows.specs.declared.Span.the-variants as span
+use Rattle.rows.specs.Rows.{spanOf, poolTextOf}
 use Rattle.rows.specs.Table.{Out, rowCount, out, times}
 
 -- row u of a table of n words, w to a row, lies inside it
@@ -42,21 +47,6 @@ module _ (step : ℕ → ℕ → List ℕ → Out) where
 
 -- the loops over the bytes of a text: one that is zero, one more that is not, and the end
 module _ (f : List ℕ) where
-  pub zeroLast-stop : (n at : ℕ) → 0 < n → getD f at 0 ≡ 0 → false ≡ zeroLast f n at
-  unfolding zeroLast
-  zeroLast-stop zero at p e = elim (nothing p) [ ]
-  zeroLast-stop (suc n) at p e = rw (eq-eqb (getD f at 0) 0 e)
-
-  pub zeroLast-more : (n at : ℕ) → 0 < n → (getD f at 0 ≡ 0 → ⊥) → zeroLast f (n - 1) (at + 1) ≡ zeroLast f n at
-  unfolding zeroLast
-  zeroLast-more zero at p e = elim (nothing p) [ ]
-  zeroLast-more (suc n) at p e = let k : suc n - 1 ≡ n = omega arith in rw (ne-eqb (getD f at 0) 0 e, k)
-
-  pub zeroLast-done : (n at : ℕ) → n ≤ 0 → eqb (getD f at 0) 0 ≡ zeroLast f n at
-  unfolding zeroLast
-  zeroLast-done zero at p = refl
-  zeroLast-done (suc n) at p = elim (nothing p) [ ]
-
   pub noZero-stop : (n at : ℕ) → 0 < n → getD f at 0 ≡ 0 → false ≡ noZero f n at
   unfolding noZero
   noZero-stop zero at p e = elim (nothing p) [ ]
@@ -71,3 +61,16 @@ module _ (f : List ℕ) where
   unfolding noZero
   noZero-done zero at p = refl
   noZero-done (suc n) at p = elim (nothing p) [ ]
+
+-- what was read, by its span
+abbrev answerOf : Span → Answer (Step TextRow)
+answerOf (At p n next) = ok (step (textRow p n) next)
+answerOf (span.Refused k) = refused k
+
+pub string-read : (f : List ℕ) (base at : ℕ) (s : Span) → s ≡ poolTextOf f base at → poolText f base at ≡ answerOf s
+unfolding poolTextOf
+string-read f base at s e = go (poolText f base at) ∙ ap answerOf (sym e)
+  where
+    go : (a : Answer (Step TextRow)) → a ≡ answerOf (spanOf a)
+    go (ok s) = refl
+    go (refused k) = refl

@@ -6,7 +6,7 @@ use mathlib.Core.List.{List}
 use lib.Dec.{eqb, ltb}
 use Rattle.format.specs.Bytes.{Answer, ok, refused, Step, has, byte, u16At}
 use Rattle.format.specs.Rows.{TextRow, textRow, nameRow, handlerWords, poolWords, textWords, nameWords}
-use Rattle.format.specs.Irep.{handler, bytes, text, bigInteger, poolValue}
+use Rattle.format.specs.Irep.{handler, bytes, poolText, symbolText, bigInteger, poolValue}
 use Rattle.format.specs.Lvar.{plainText, nameEntry}
 use Rattle.rows.specs.declared.Rows.the-variants as rows
 use Rattle.rows.specs.declared.Span.{Span}
@@ -26,8 +26,11 @@ spanOf (refused e) = span.Refused e
 abbrev pub bytesOf : List ℕ → ℕ → ℕ → ℕ → Span
 bytesOf f base at n = spanOf (bytes f base at n)
 
-unfoldable pub textOf : List ℕ → ℕ → ℕ → Span
-textOf f base at = spanOf (text f base at)
+unfoldable pub poolTextOf : List ℕ → ℕ → ℕ → Span
+poolTextOf f base at = spanOf (poolText f base at)
+
+unfoldable pub symbolTextOf : List ℕ → ℕ → ℕ → Span
+symbolTextOf f base at = spanOf (symbolText f base at)
 
 unfoldable pub plainTextOf : List ℕ → ℕ → ℕ → Span
 plainTextOf f base at = spanOf (plainText f base at)
@@ -52,7 +55,7 @@ textPut (span.At p n next) u t = putOf next u t (textWords (textRow p n))
 textPut (span.Refused e) u t = out (rows.Refused e) t
 
 unfoldable pub symbolOf : List ℕ → ℕ → ℕ → ℕ → List ℕ → Out
-symbolOf f base at u t = textPut (textOf f base at) u t
+symbolOf f base at u t = textPut (symbolTextOf f base at) u t
 
 unfoldable pub stringOf : List ℕ → ℕ → ℕ → ℕ → List ℕ → Out
 stringOf f base at u t = textPut (plainTextOf f base at) u t

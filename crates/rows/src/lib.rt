@@ -1,17 +1,16 @@
 // Readers that fill one lent table of words, row by row. Each takes a part of the file with its start in the file, a place in the part, a
 // table and how many of its rows are used, and answers the next place with the rows now used, or a refusal's number.
-use binfmt::be16_to_u16;
-use binfmt::be32_to_u32;
 use binfmt::rest;
+use binfmt::u8_in;
+use binfmt::u16_in;
+use binfmt::u32_in;
 ghost use mathlib.Core.Bool.{true};
 ghost use mathlib.Core.Path.{_≡_};
 ghost use Prim.Native.Nat.{_+_, _-_, _≤_, _<_};
 ghost use lib.ListN.{length, replicate};
-ghost use Rattle.format.specs.Bytes.{byte, u16At, u32At};
-ghost use Rattle.format.specs.Irep.{zeroLast};
-ghost use Rattle.format.specs.Lvar.{noZero};
+ghost use Rattle.format.specs.Bytes.{noZero};
 ghost use Rattle.rows.specs.Table.{out, splice, rowCount, firstOf, putOf, times};
-ghost use Rattle.rows.specs.Rows.{handlerOf, bytesOf, textOf, plainTextOf, bigIntegerOf, poolValueOf, poolOf, symbolOf, stringOf, isName, nameOf, rowOf, countedOf};
+ghost use Rattle.rows.specs.Rows.{handlerOf, bytesOf, poolTextOf, symbolTextOf, plainTextOf, bigIntegerOf, poolValueOf, poolOf, symbolOf, stringOf, isName, nameOf, rowOf, countedOf};
 
 // The next place and the rows used, or a refusal's number.
 pub enum Rows {
@@ -32,36 +31,6 @@ pub enum Row {
     Symbol,
     Text,
     Name(u32),
-}
-
-fn wide(x: u8) -> u32
-    ensures { λ r. ⌜ (r ≡ x) × (r < 256) ⌝ }
-{
-    x as u32
-}
-
-// The byte at a place of the part.
-pub fn u8_in(f: &[u8], at: usize) -> u32
-    requires { ⌜ at + 1 ≤ length (now f) ⌝ }
-    ensures { λ r. ⌜ (r ≡ byte (now (f .entry)) at) × (r < 256) ⌝ }
-{
-    wide(f[at])
-}
-
-// The field of two bytes at a place of the part.
-pub fn u16_in(f: &[u8], at: usize) -> u16
-    requires { ⌜ at + 2 ≤ length (now f) ⌝ }
-    ensures { λ r. ⌜ r ≡ u16At (now (f .entry)) at ⌝ }
-{
-    be16_to_u16([f[at], f[at + 1]])
-}
-
-// The field of four bytes at a place of the part.
-pub fn u32_in(f: &[u8], at: usize) -> u32
-    requires { ⌜ at + 4 ≤ length (now f) ⌝ }
-    ensures { λ r. ⌜ r ≡ u32At (now (f .entry)) at ⌝ }
-{
-    be32_to_u32([f[at], f[at + 1], f[at + 2], f[at + 3]])
 }
 
 // Every word of the table becomes 0.
@@ -144,23 +113,6 @@ fn read_handler(f: &[u8], at: usize, t: &mut [u32], used: u32) -> Rows
     put_row(t, used, &row, at + 13)
 }
 
-// Whether only the last of the n + 1 bytes from a place on is zero.
-fn only_last_zero(f: &[u8], n: usize, at: usize) -> bool
-    requires { ⌜ at + n + 1 ≤ length (now f) ⌝ }
-    ensures { λ r. ⌜ r ≡ zeroLast (now (f .entry)) n at ⌝ }
-{
-    let mut left = n;
-    let mut i = at;
-    while 0 < left {
-        if f[i] == 0 {
-            return false;
-        }
-        i += 1;
-        left -= 1;
-    }
-    f[i] == 0
-}
-
 // Whether none of the n bytes from a place on is zero.
 fn no_zero(f: &[u8], n: usize, at: usize) -> bool
     requires { ⌜ at + n ≤ length (now f) ⌝ }
@@ -193,10 +145,10 @@ fn bytes(f: &[u8], base: usize, at: usize, n: usize) -> Span
     }
 }
 
-// A string or a symbol: a length n of two bytes, then n + 1 bytes whose only zero is the last, which the span leaves out.
-fn text(f: &[u8], base: usize, at: usize) -> Span
+// A pool string: a length n of two bytes, then n + 1 bytes of which the last is zero, which the span leaves out.
+fn pool_text(f: &[u8], base: usize, at: usize) -> Span
     requires { ⌜ base + length (now f) ≤ 65536 ⌝ }
-    ensures { λ r. ⌜ r ≡ textOf (now (f .entry)) base at ⌝ }
+    ensures { λ r. ⌜ r ≡ poolTextOf (now (f .entry)) base at ⌝ }
 {
     if rest(f, at) < 2 {
         return Span::Refused(7);
@@ -206,7 +158,7 @@ fn text(f: &[u8], base: usize, at: usize) -> Span
     if rest(f, place) < n + 1 {
         return Span::Refused(7);
     }
-    if only_last_zero(f, n, place) {
+    if f[place + n] == 0 {
         return Span::At {
             place: (base + place) as u32,
             len: n as u32,
@@ -214,6 +166,22 @@ fn text(f: &[u8], base: usize, at: usize) -> Span
         };
     }
     Span::Refused(9)
+}
+
+// A symbol: a text that ends as a pool string does, without another zero.
+fn symbol_text(f: &[u8], base: usize, at: usize) -> Span
+    requires { ⌜ base + length (now f) ≤ 65536 ⌝ }
+    ensures { λ r. ⌜ r ≡ symbolTextOf (now (f .entry)) base at ⌝ }
+{
+    match pool_text(f, base, at) {
+        Span::Refused(k) => Span::Refused(k),
+        Span::At { place, len, next } => {
+            if no_zero(f, len as usize, at + 2) {
+                return Span::At { place, len, next };
+            }
+            Span::Refused(9)
+        }
+    }
 }
 
 // A local name or a file name: a length n of two bytes, then n bytes without a zero.
@@ -256,7 +224,7 @@ fn pool_value(f: &[u8], base: usize, kind: u32, at: usize) -> Span
     ensures { λ r. ⌜ r ≡ poolValueOf (now (f .entry)) base kind at ⌝ }
 {
     match kind {
-        0 | 2 => text(f, base, at),
+        0 | 2 => pool_text(f, base, at),
         1 => bytes(f, base, at, 4),
         3 | 5 => bytes(f, base, at, 8),
         7 => big_integer(f, base, at),
@@ -284,7 +252,7 @@ fn read_symbol(f: &[u8], base: usize, at: usize, t: &mut [u32], used: u32) -> Ro
     requires { ⌜ base + length (now f) ≤ 65536 ⌝ }
     ensures { λ r. ⌜ out r (now (t .exit)) ≡ symbolOf (now (f .entry)) base at used (now (t .entry)) ⌝ }
 {
-    match text(f, base, at) {
+    match symbol_text(f, base, at) {
         Span::At { place, len, next } => put_row(t, used, &[place, len], next),
         Span::Refused(k) => Rows::Refused(k),
     }

@@ -8,9 +8,9 @@ use line::Line;
 use line::LineAt;
 use line::Pos;
 use line_packed::Packed;
-use number::Float64;
 use number::Int32;
 use number::Int64;
+use number_float::Float64;
 
 fn number(n: u32) {
     io::write_all(STDOUT_FILENO, b" ");
@@ -193,7 +193,7 @@ fn int64_is(head: &[u8], n: i64) {
 
 fn float_is(head: &[u8], x: f64) {
     io::write_all(STDOUT_FILENO, b"float64");
-    match number::f64_at(head, 0) {
+    match number_float::f64_at(head, 0) {
         Float64::Value(v) => truth(v == x),
         Float64::Refused(e) => refused(e),
     }
@@ -212,9 +212,9 @@ fn fields() {
     int32_is(&[255, 255, 255, 254], -2);
     int32_is(&[128, 0, 0, 0], -2147483648);
     int32_is(&[0, 0, 1], 0);
-    int64_is(&[2, 1, 0, 0, 0, 0, 0, 0], 258);
-    int64_is(&[254, 255, 255, 255, 255, 255, 255, 255], -2);
     int64_is(&[0, 0, 0, 0, 0, 0, 1, 2], 258);
+    int64_is(&[255, 255, 255, 255, 255, 255, 255, 254], -2);
+    int64_is(&[2, 1, 0, 0, 0, 0, 0, 0], 258);
     int64_is(&[0, 0, 0, 0, 0, 0, 1], 0);
     float_is(&[0, 0, 0, 0, 0, 0, 248, 63], 1.5);
     float_is(&[0, 0, 0, 0, 0, 0, 248, 191], -1.5);

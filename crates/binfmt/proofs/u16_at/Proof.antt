@@ -9,16 +9,7 @@ returns : tie.Need-returns
 returns c = rw (← c .before .rest .ensures, lt-leb _ _ (c .if1 .taken))
 
 returns-2 : tie.Need-returns-2
-returns-2 c = rw (← c .before .before .before .before .rest .ensures, le-leb _ _ (c .before .before .before .if1 .left), c .be16-to-u16 .ensures)
+returns-2 c = rw (← c .before .before .rest .ensures, le-leb _ _ (c .before .if1 .left), c .u16-in .ensures)
 
 pub u16-at-spec : {M : Type 1} → statement M
-u16-at-spec =
-    tie.close
-    (tie.spec
-    (λ c κs. search needs)
-    returns
-    (λ c. search needs)
-    (λ c. search needs)
-    (λ c. search needs)
-    (λ c κs. search needs)
-    returns-2)
+u16-at-spec = tie.close (tie.spec (λ c κs. search needs) returns (λ c κs. search needs) returns-2)

@@ -4,7 +4,7 @@ use borrow.Author.Tests.{ne-eqb}
 use mathlib.Core.Path.{sym, ap, _∙_}
 use Rattle.format.specs.Bytes.{float64At}
 use Rattle.format.specs.Lookup.{float}
-use Rattle.number.specs.Answers.{float64Of}
+use Rattle.number_float.specs.Answers.{float64Of}
 use Rattle.constant.proofs.Laws.{number-read}
 use borrow.Author.Needs.{needs}
 use Rattle.constant.proofs.float64.Statement.{statement}

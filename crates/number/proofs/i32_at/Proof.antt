@@ -6,7 +6,7 @@ use borrow.Author.Needs.{sfits-of}
 use mathlib.Core.Path.{sym, ap, _∙_}
 use Rattle.format.specs.Bytes.{ok, u32At, signed32}
 use Rattle.binfmt.specs.Answers.{field32Of}
-use Rattle.number.proofs.Mapped.{mapped, reads-mapped}
+use Rattle.format.proofs.Answers.{mapped, reads-mapped}
 use borrow.Author.Needs.{needs}
 use Rattle.number.proofs.i32_at.Statement.{statement}
 use Rattle.number.proofs.i32_at.Tie as tie

@@ -4,7 +4,7 @@ use native.Mathlib.Omega.{arith}
 use Prim.Native.Nat.{_+_}
 use mathlib.Core.Path.{_≡_, refl, _∙_}
 use denote.Ref.{now}
-use Rattle.format.specs.Lvar.{noZero}
+use Rattle.format.specs.Bytes.{noZero}
 use Rattle.rows.proofs.Laws.{noZero-stop, noZero-more, noZero-done}
 use Rattle.rows.proofs.no_zero.Statement.{statement}
 use Rattle.rows.proofs.no_zero.Tie as tie

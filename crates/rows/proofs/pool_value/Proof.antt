@@ -2,30 +2,30 @@
 -- Assumes nothing.
 use borrow.Author.Tests.{ne-eqb}
 use mathlib.Core.Logic.{⊎-elim, inl, inr}
-use Rattle.rows.specs.Rows.{poolValueOf, textOf, bigIntegerOf}
+use Rattle.rows.specs.Rows.{poolValueOf, poolTextOf, bigIntegerOf}
 use Rattle.format.specs.Irep.{poolValue}
 use borrow.Author.Needs.{needs}
 use Rattle.rows.proofs.pool_value.Statement.{statement}
 use Rattle.rows.proofs.pool_value.Tie as tie
 
 returns : tie.Need-returns
-unfolding poolValueOf poolValue textOf bigIntegerOf
-returns c = ⊎-elim (λ e. rw e (c .text .ensures)) (λ e. rw e (c .text .ensures)) (c .before .match .keys1)
+unfolding poolValueOf poolValue poolTextOf bigIntegerOf
+returns c = ⊎-elim (λ e. rw e (c .pool-text .ensures)) (λ e. rw e (c .pool-text .ensures)) (c .before .match .keys1)
 
 returns-2 : tie.Need-returns-2
-unfolding poolValueOf poolValue textOf bigIntegerOf
+unfolding poolValueOf poolValue poolTextOf bigIntegerOf
 returns-2 c = rw (c .before .match .keys2) (c .bytes .ensures)
 
 returns-3 : tie.Need-returns-3
-unfolding poolValueOf poolValue textOf bigIntegerOf
+unfolding poolValueOf poolValue poolTextOf bigIntegerOf
 returns-3 c = ⊎-elim (λ e. rw e (c .bytes2 .ensures)) (λ e. rw e (c .bytes2 .ensures)) (c .before .match .keys3)
 
 returns-4 : tie.Need-returns-4
-unfolding poolValueOf poolValue textOf bigIntegerOf
+unfolding poolValueOf poolValue poolTextOf bigIntegerOf
 returns-4 c = rw (c .before .match .keys4) (c .big-integer .ensures)
 
 returns-5 : tie.Need-returns-5
-unfolding poolValueOf poolValue textOf bigIntegerOf
+unfolding poolValueOf poolValue poolTextOf bigIntegerOf
 returns-5 c =
     let c2 = c .before .before in
     let r = c .match .rest in

@@ -1,9 +1,9 @@
--- `number::le64_at` meets its contract.
+-- `number_float::le64_at` meets its contract.
 -- Assumes nothing.
 use borrow.Author.Tests.{lt-leb, le-leb}
 use borrow.Author.Needs.{needs}
-use Rattle.number.proofs.le64_at.Statement.{statement}
-use Rattle.number.proofs.le64_at.Tie as tie
+use Rattle.number_float.proofs.le64_at.Statement.{statement}
+use Rattle.number_float.proofs.le64_at.Tie as tie
 
 returns : tie.Need-returns
 returns c = rw (← c .before .rest .ensures, lt-leb _ _ (c .if1 .taken))

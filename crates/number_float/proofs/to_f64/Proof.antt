@@ -1,4 +1,4 @@
--- `number::to_f64` meets its contract: the test is `nanBits` (`nanBits-above`), and what a NaN's pattern is read as is what 0 / 0 is. Assumes nothing.
+-- `number_float::to_f64` meets its contract: the test is `nanBits` (`nanBits-above`), and what a NaN's pattern is read as is what 0 / 0 is. Assumes nothing.
 use mathlib.Core.Path.{_≡_, refl, sym, subst, _∙_}
 use mathlib.Core.Bool.{Bool, true, not}
 use lib.Dec.{T}
@@ -6,8 +6,8 @@ use lib.Ieee.{Float, nan, inf, fin, binary64, ofBits, div, isNan}
 use lib.Ieee.Bits.{nanBits-above, nanBits-is}
 use borrow.Author.Needs.{needs}
 use borrow.Author.Tests.{lt-ltb, le-ltb}
-use Rattle.number.proofs.to_f64.Statement.{statement}
-use Rattle.number.proofs.to_f64.Tie as tie
+use Rattle.number_float.proofs.to_f64.Statement.{statement}
+use Rattle.number_float.proofs.to_f64.Tie as tie
 
 -- only one value is a NaN
 is-nan : (x : Float) → isNan x ≡ true → nan ≡ x

@@ -1,13 +1,13 @@
--- `number::f64_at` meets its contract.
+-- `number_float::f64_at` meets its contract.
 -- Assumes nothing.
 use mathlib.Core.Path.{sym, ap, _∙_}
 use Rattle.format.specs.Bytes.{ok, le64At}
 use lib.Ieee.{binary64, ofBits}
-use Rattle.number.specs.Answers.{field64Of}
-use Rattle.number.proofs.Mapped.{mapped, reads-mapped}
+use Rattle.number_float.specs.Answers.{field64Of}
+use Rattle.format.proofs.Answers.{mapped, reads-mapped}
 use borrow.Author.Needs.{needs}
-use Rattle.number.proofs.f64_at.Statement.{statement}
-use Rattle.number.proofs.f64_at.Tie as tie
+use Rattle.number_float.proofs.f64_at.Statement.{statement}
+use Rattle.number_float.proofs.f64_at.Tie as tie
 
 returns : tie.Need-returns
 returns c =

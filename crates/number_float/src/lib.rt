@@ -1,0 +1,77 @@
+// Floats of eight bytes, low byte first.
+ghost use mathlib.Core.Path.{_≡_};
+ghost use Prim.Native.Nat.{_<_};
+ghost use lib.Ieee.{binary64, ofBits};
+ghost use Rattle.format.specs.Bytes.{le64At, float64At, reads};
+ghost use Rattle.number_float.specs.Answers.{field64Of, float64Of};
+
+// A field of eight bytes, low byte first, or the refusal's number.
+enum Field64 {
+    Value(u64),
+    Refused(u8),
+}
+
+// A float of eight bytes, or the refusal's number.
+pub enum Float64 {
+    Value(f64),
+    Refused(u8),
+}
+
+fn wide64(x: u8) -> u64
+    ensures { λ r. ⌜ (r ≡ x) × (r < 256) ⌝ }
+{
+    x as u64
+}
+
+// Eight bytes, low byte first.
+fn le64_to_u64(le64: [u8; 8]) -> u64
+    ensures { λ r. ⌜ r ≡ le64At le64 0 ⌝ }
+{
+    wide64(le64[0])
+        + wide64(le64[1]) * 0x100
+        + wide64(le64[2]) * 0x1_0000
+        + wide64(le64[3]) * 0x100_0000
+        + wide64(le64[4]) * 0x1_0000_0000
+        + wide64(le64[5]) * 0x100_0000_0000
+        + wide64(le64[6]) * 0x1_0000_0000_0000
+        + wide64(le64[7]) * 0x100_0000_0000_0000
+}
+
+// The float that a pattern of 64 bits is, a NaN's too.
+fn to_f64(n: u64) -> f64
+    ensures { λ r. ⌜ r ≡ ofBits binary64 n ⌝ }
+{
+    if 0x7ff0_0000_0000_0000 < n % 0x8000_0000_0000_0000 {
+        0.0 / 0.0
+    } else {
+        f64::from_bits(n)
+    }
+}
+
+fn le64_at(head: &[u8], cur: usize) -> Field64
+    ensures { λ r. ⌜ field64Of r ≡ reads (now (head .entry)) cur 8 (le64At (now (head .entry)) cur) ⌝ }
+{
+    if binfmt::rest(head, cur) < 8 {
+        return Field64::Refused(7);
+    }
+    Field64::Value(le64_to_u64([
+        head[cur],
+        head[cur + 1],
+        head[cur + 2],
+        head[cur + 3],
+        head[cur + 4],
+        head[cur + 5],
+        head[cur + 6],
+        head[cur + 7],
+    ]))
+}
+
+// Eight bytes as a float, low byte first.
+pub fn f64_at(head: &[u8], cur: usize) -> Float64
+    ensures { λ r. ⌜ float64Of r ≡ reads (now (head .entry)) cur 8 (float64At (now (head .entry)) cur) ⌝ }
+{
+    match le64_at(head, cur) {
+        Field64::Refused(e) => Float64::Refused(e),
+        Field64::Value(n) => Float64::Value(to_f64(n)),
+    }
+}
