@@ -24,7 +24,7 @@
     6  a second IREP, LVAR or DBG, or LVAR or DBG before IREP
     7  a read or a section size passes the file's end, or in DBG the section's
     8  an IREP, LVAR or END section or a record has size 0
-    9  a text has a zero byte inside, or none where one must end it
+    9  a symbol or a name has a zero byte inside, or a symbol or a pool string has none behind it
    10  a constant is of an unknown kind
    11  LVAR: a record without locals (nlocals 0), or a name that is neither 65535 nor below the number of strings
    12  DBG: a file's start not above that of the file before, a name or a kind out of range, a packed number of more than five bytes, or a debug
@@ -78,7 +78,8 @@ typedef struct {
    records, 19:  size, nlocals, nregs, rlen, clen, ilen, place of the instructions, then first row and number of its handlers, pool entries,
                  symbols, names, debug files and lines
    handlers, 4:  kind (0 rescue, 1 ensure; any byte loads), begin, end, target: offsets in the record's instructions
-   pool, 3:      kind (0 and 2 string, 1 int32, 3 int64, 5 float64, 7 big integer), place and length of the value's bytes
+   pool, 3:      kind, place and length of the value's bytes. 0 and 2 string, without the zero behind it; zero bytes inside are part of it.
+                 1 int32 and 3 int64, high byte first. 5 float64, low byte first. 7 big integer, its base in one byte, then its digits
    symbols, 2:   place, length of the text without its zero
    strings, 2:   the same, of a local variable's name
    names, 1:     row of strings, or 65535 for unnamed
@@ -192,7 +193,11 @@ BlotheathFollowed blotheath_follow(const uint8_t *file, size_t file_len,
                                    uint32_t *frames, size_t frames_len,
                                    const uint8_t *choices, size_t choices_len);
 
-/* Lookups read a file and tables of any contents, and write nothing. refusal: 0, or 22, and then all else is 0. A record row of size 0 is none. */
+/* Lookups read a file and tables of any contents, and write nothing. refusal: 0, or 22, and then all else is 0. A record row of size 0 is none.
+
+   Texts. A text is the length bytes of the file from place on. It is not a C string: a constant's text may have zero bytes inside, and no zero
+   need be behind a name. Copy, compare and print it by its length (memcpy, memcmp, fwrite), not with strlen, strcmp or %s, which see less of
+   it or pass its end. After a load, symbols, names of locals and names of source files have no zero byte inside. */
 
 typedef struct {
     uint32_t refusal;

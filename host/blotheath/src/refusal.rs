@@ -29,7 +29,7 @@ const REFUSALS: &[(u32, By, &str)] = &[
     (6, Loading, "a section comes twice, or names or lines come before the records"),
     (7, Loading, "something reaches past the end of the file, or of the debug section that it is in"),
     (8, Loading, "a section or a record has size 0"),
-    (9, Loading, "a text has a zero byte inside or no zero byte at its end"),
+    (9, Loading, "a symbol or a name has a zero byte inside, or a symbol or a constant's text does not end with one"),
     (10, Loading, "a constant is of an unknown kind"),
     (11, Loading, "a record with names has no locals, or a local has a name that does not exist"),
     (12, Loading, "a debug record breaks its rules: a start, a file name, a kind, a packed number or its size"),

@@ -275,9 +275,7 @@ fn a_folder_of_damaged_files() {
 fn texts_are_shown_safely() {
     let folder = Folder::new("texts");
     let evil: &[u8] = b"\x1b[2J</script><img src=x>\"'&\r\n\xff\xe2\x80\xae";
-    let mut constant = vec![0, 0, evil.len() as u8];
-    constant.extend(evil);
-    constant.push(0);
+    let constant = build::text(&[b"\0", evil].concat());
     let code = [92, 0, 0, 16, 0, 0, 118];
     let path = folder.file(
         "e\u{1b}[1mvil.mrb",

@@ -1,5 +1,6 @@
 /* Calls the archive as include/blotheath.h says, with slices without elements at NULL. Ends with 0 where every answer is as said. */
 #include <stdio.h>
+#include <string.h>
 #include "blotheath.h"
 
 #define NONE NULL, 0
@@ -23,8 +24,17 @@ static const uint8_t file[64] = {
     'E', 'N', 'D', 0, 0, 0, 0, 8,
 };
 
+/* The same with two constants: the text "a\0b", and 123456789012 in eight bytes. */
+static const uint8_t constants[80] = {
+    'R', 'I', 'T', 'E', '0', '4', '0', '0', 0, 0, 0, 80, 0, 0, 0, 0, 0, 0, 0, 0,
+    'I', 'R', 'E', 'P', 0, 0, 0, 52, 0, 0, 0, 0,
+    0, 0, 0, 40, 0, 1, 0, 2, 0, 0, 0, 0, 0, 0, 0, 4, 17, 1, 61, 1,
+    0, 2, 0, 0, 3, 'a', 0, 'b', 0, 3, 0, 0, 0, 0x1c, 0xbe, 0x99, 0x1a, 0x14, 0, 0,
+    'E', 'N', 'D', 0, 0, 0, 0, 8,
+};
+
 int main(void) {
-    uint32_t records[19], frames[2];
+    uint32_t records[19], pool[6], frames[2];
     BlotheathRecord row[1];
     uint8_t other[sizeof file] = {0};
 
@@ -57,6 +67,14 @@ int main(void) {
     hold(blotheath_line(NONE, NONE, 0, 0).refusal == 22, "line");
     BlotheathLookedLine line = blotheath_line(LENT(records), NONE, 0, 0);
     hold(line.refusal == 0 && line.found == 0, "a record without lines");
+
+    hold(blotheath_load(LENT(constants), LENT(records), NONE, LENT(pool), NONE, NONE, NONE, NONE, NONE, NONE).refusal == 0,
+         "a text with a zero byte inside loads");
+    BlotheathConstant text = blotheath_pool(LENT(constants), LENT(records), LENT(pool), 0, 0);
+    hold(text.refusal == 0 && text.kind == 0 && text.length == 3 && memcmp(constants + text.place, "a\0b", 3) == 0,
+         "its zero byte is part of it");
+    BlotheathConstant number = blotheath_pool(LENT(constants), LENT(records), LENT(pool), 0, 1);
+    hold(number.refusal == 0 && number.kind == 1 && number.integer == INT64_C(123456789012), "eight bytes, high byte first");
 
     hold(blotheath_fetch(NONE).refusal == 24, "an instruction of no bytes");
     hold(blotheath_fetch(file + code.place, code.length).a == 1, "an instruction");

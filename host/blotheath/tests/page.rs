@@ -83,6 +83,7 @@ fn refused() -> Vec<(u32, Vec<u8>)> {
         (3, sample_with(5, b'3')),
         (5, sample_with(22, b'Q')),
         (7, build::resized(&sample_bytes(), 700)),
+        (9, build::one(stop, &[], &[b"a\0b"])),
         (15, build::file(&[build::irep(&two.concat())])),
         (16, sample_with(683 + 56, 200)),
         (16, build::one(&[], &[], &[])),
@@ -190,10 +191,7 @@ fn long_texts() -> (Vec<u8>, String, String, String) {
     let text = "The rods of <an> oval; ".repeat(40);
     let symbol = "a_long_name_".repeat(20);
     let digits = "1234567890".repeat(12);
-    let mut constant = vec![0];
-    constant.extend((text.len() as u16).to_be_bytes());
-    constant.extend(text.as_bytes());
-    constant.push(0);
+    let constant = build::text(text.as_bytes());
     let mut big = vec![7, digits.len() as u8, 10];
     big.extend(digits.as_bytes());
     let code = [92, 0, 0, 2, 0, 1, 16, 0, 0, 118];

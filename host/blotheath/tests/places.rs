@@ -239,21 +239,83 @@ fn records_and_what_they_hold() {
     let left = file.len() - second - 16;
     let what = format!("the record's code needs 5000 bytes here, and {left} are left");
     check(&file, (7, Some("IREP"), at + 16, Some(1), what.leak()));
-    // Behind the header, the code, the handler and the count come the constants.
-    let constants = 32 + 16 + 1 + 13 + 2;
-    let at = constants as u32;
     let mut file = rich();
-    file[constants] = 9;
+    file[POOL] = 9;
     let what = "constant 0 is of kind 9";
-    check(&file, (10, Some("IREP"), at, Some(0), what));
+    check(&file, (10, Some("IREP"), POOL as u32, Some(0), what));
+}
+
+/// Where the constants of record 0 begin: behind its header, its code, a handler and their number.
+const POOL: usize = 32 + 16 + 1 + HANDLER.len() + 2;
+
+/// Where a constant of record 0 begins; one past the last, where they end.
+fn constant_at(index: usize) -> usize {
+    POOL + CONSTANTS[..index].concat().len()
+}
+
+/// The rich file with other bytes at these places.
+fn rich_with(changes: &[(usize, u8)]) -> Vec<u8> {
     let mut file = rich();
-    file[constants + 4] = 0;
-    let what = "constant 0 has a zero byte inside";
-    check(&file, (9, Some("IREP"), at + 4, Some(0), what));
-    let mut file = rich();
-    file[constants + 5] = 1;
-    let what = "constant 0 does not end with a zero byte";
-    check(&file, (9, Some("IREP"), at + 5, Some(0), what));
+    for (place, byte) in changes {
+        file[*place] = *byte;
+    }
+    file
+}
+
+/// A text constant has any bytes inside, and a zero byte behind it.
+#[test]
+fn zero_bytes_of_text_constants() {
+    for index in [0, 2] {
+        let first = constant_at(index) + 3;
+        let end = constant_at(index + 1) - 1;
+        let what = format!("constant {index} does not end with a zero byte");
+        let what: &'static str = what.leak();
+        for inside in [0, b'z'] {
+            let mut file = rich_with(&[(first, inside)]);
+            assert!(load(&file).is_ok());
+            file[end] = b'z';
+            check(&file, (9, Some("IREP"), end as u32, Some(0), what));
+        }
+    }
+}
+
+/// A symbol has no zero byte inside, and one behind it; the one inside is met first.
+#[test]
+fn zero_bytes_of_symbols() {
+    // Behind the constants come the number of symbols and the length of the first, "puts".
+    let first = constant_at(CONSTANTS.len()) + 2 + 2;
+    let (zero, end) = (first + 2, first + 4);
+    let inside = "symbol 0 has a zero byte inside";
+    let behind = "symbol 0 does not end with a zero byte";
+    for (changes, place, what) in [
+        (&[(zero, 0)][..], zero, inside),
+        (&[(zero, 0), (end, 1)], zero, inside),
+        (&[(end, 1)], end, behind),
+    ] {
+        let expected = (9, Some("IREP"), place as u32, Some(0), what);
+        check(&rich_with(changes), expected);
+    }
+}
+
+#[test]
+fn examine_tells_of_zero_bytes() {
+    let sentence = "a symbol or a name has a zero byte inside, or a symbol or a constant's text does not end with one";
+    let end = constant_at(1) - 1;
+    let ran = run_with(&["examine", "-"], &rich_with(&[(end - 1, 0), (end, 1)]));
+    let place = format!("IREP, record 0, byte {end}: constant 0 does not end with a zero byte");
+    let line = format!("standard input: refused by 9: {sentence} ({place})");
+    assert_eq!(ran.out.lines().next(), Some(line.as_str()));
+}
+
+/// A text that passes the file's end is refused for that, whatever bytes it has.
+#[test]
+fn a_text_past_the_end() {
+    let text = [0, 255, 255, 0, b'a', 0];
+    let file = build::one(&[118], &[&text], &[]);
+    let place = 32 + 16 + 1 + 2 + 3;
+    let left = file.len() - place;
+    let what = format!("constant 0 needs 65536 bytes here, and {left} are left");
+    check(&file, (7, Some("IREP"), place as u32, Some(0), what.leak()));
 }
 
 #[test]
@@ -270,10 +332,19 @@ fn names() {
     file[index + 5] = 2;
     let what = "local 1 has name 2, and there are 2";
     check(&file, (11, Some("LVAR"), at + 23, Some(1), what));
-    let mut file = rich();
-    file[names + 14] = 0;
+    let file = rich_with(&[(names + 14, 0)]);
     let what = "name 0 has a zero byte inside";
     check(&file, (9, Some("LVAR"), at + 14, None, what));
+}
+
+#[test]
+fn zero_bytes_of_file_names() {
+    let [records, names, _] = sections();
+    // Behind the section's head, the number of names and the length of the first.
+    let place = 20 + records.len() + names.len() + 8 + 2 + 2;
+    let what = "file name 0 has a zero byte inside";
+    let expected = (9, Some("DBG"), place as u32, None, what);
+    check(&rich_with(&[(place, 0)]), expected);
 }
 
 /// A file of these debug files for its one record, and where they begin.
@@ -458,8 +529,7 @@ fn every_file_that_does_not_load_has_a_place() {
 #[test]
 fn examine_shows_the_bytes() {
     let folder = Folder::new("bytes");
-    let mut file = rich();
-    file[64] = 9;
+    let file = rich_with(&[(POOL, 9)]);
     let path = folder.file("bad.mrb", &file);
     let ran = run(&["examine", &path]);
     assert_eq!(ran.status, 1);

@@ -2,10 +2,10 @@
 
 mod common;
 
-use common::json::{Value, parse};
+use common::json::parse;
 use common::{
-    Folder, Numbers, build, run, run_behind, run_in_64_mb, run_in_shell, run_with, sample,
-    sample_bytes, status_unread,
+    Folder, build, run, run_behind, run_in_64_mb, run_in_shell, run_with, sample, sample_bytes,
+    status_unread,
 };
 use std::fs;
 use std::os::unix::fs::{MetadataExt, PermissionsExt, symlink};
@@ -283,9 +283,7 @@ const HIDDEN: &str = "\u{ad}\u{61c}\u{200b}\u{200e}\u{200f}\u{202a}\u{202e}\u{20
 #[test]
 fn what_is_not_seen_is_shown_escaped() {
     let folder = Folder::new("hidden");
-    let mut constant = vec![0, 0, HIDDEN.len() as u8];
-    constant.extend(HIDDEN.as_bytes());
-    constant.push(0);
+    let constant = build::text(HIDDEN.as_bytes());
     let code = [92, 0, 0, 16, 0, 0, 118];
     let file = build::one(&code, &[&constant], &[HIDDEN.as_bytes()]);
     let path = folder.file(&format!("a{HIDDEN}b.mrb"), &file);
@@ -332,10 +330,7 @@ fn what_is_not_seen_is_shown_escaped() {
 fn load_says_how_to_see_the_rest() {
     let folder = Folder::new("rest");
     let text = "willow ".repeat(40);
-    let mut constant = vec![0];
-    constant.extend((text.len() as u16).to_be_bytes());
-    constant.extend(text.as_bytes());
-    constant.push(0);
+    let constant = build::text(text.as_bytes());
     let digits = "1234567890".repeat(9);
     let mut big = vec![7, digits.len() as u8, 10];
     big.extend(digits.as_bytes());
@@ -366,122 +361,6 @@ fn load_says_how_to_see_the_rest() {
         assert!(!whole.contains("--all"), "{words:?}");
     }
     assert!(!run(&["load", path_of(&sample())]).out.contains("cut"));
-}
-
-/// A file with these constants, each loaded by a step.
-fn of_constants(constants: &[Vec<u8>]) -> Vec<u8> {
-    let mut code = Vec::new();
-    for number in 0..constants.len() {
-        code.extend([2, 0, number as u8]);
-    }
-    code.push(118);
-    let constants: Vec<&[u8]> = constants.iter().map(Vec::as_slice).collect();
-    build::one(&code, &constants, &[])
-}
-
-/// The constants of a file, as `load --json` and as `steps --json` have them.
-fn read_back(path: &str) -> [Vec<Value>; 2] {
-    let load = parse(&run(&["load", "--json", path]).out);
-    let loaded = load.get("records").items()[0]
-        .get("constants")
-        .items()
-        .to_vec();
-    let steps = parse(&run(&["steps", "--json", path]).out);
-    let steps = steps.get("records").items()[0]
-        .get("steps")
-        .items()
-        .to_vec();
-    let named = steps
-        .iter()
-        .filter(|step| step.get("name").text() == "LOADL")
-        .map(|step| step.get("operands").items()[1].clone());
-    [loaded, named.collect()]
-}
-
-fn hex(bytes: &[u8]) -> String {
-    bytes.iter().map(|byte| format!("{byte:02x}")).collect()
-}
-
-#[test]
-fn whole_numbers_are_exact() {
-    let folder = Folder::new("whole");
-    let numbers = [
-        0,
-        -1,
-        (1 << 53) - 1,
-        1 << 53,
-        (1 << 53) + 1,
-        -(1 << 53) - 1,
-        i64::MAX,
-        i64::MIN,
-    ];
-    let mut constants: Vec<Vec<u8>> = numbers
-        .iter()
-        .map(|number: &i64| [&[3][..], &number.to_le_bytes()].concat())
-        .collect();
-    constants.push([&[1][..], &(-7i32).to_be_bytes()].concat());
-    let path = folder.file("whole.mrb", &of_constants(&constants));
-    for read in read_back(&path) {
-        assert_eq!(read.len(), constants.len());
-        for (number, constant) in numbers.iter().chain(&[-7]).zip(&read) {
-            assert_eq!(constant.get("value").number(), *number as f64);
-            let is_beyond = number.unsigned_abs() >= 1 << 53;
-            assert_eq!(constant.has("exact"), is_beyond, "{number}");
-            if is_beyond {
-                assert_eq!(constant.get("exact").text(), number.to_string());
-            }
-        }
-        for (bytes, constant) in constants.iter().zip(&read) {
-            assert_eq!(constant.get("hex").text(), hex(&bytes[1..]));
-        }
-    }
-    let load = run(&["load", "--json", &path]).out;
-    let exact = "\"value\":9007199254740993,\"exact\":\"9007199254740993\"";
-    assert!(load.contains(exact), "{load}");
-    let rows = run(&["load", &path]).out;
-    assert!(rows.contains("  9007199254740993\n"), "{rows}");
-}
-
-#[test]
-fn floats_read_back() {
-    let folder = Folder::new("floats");
-    let mut numbers = Numbers(4);
-    let mut bits = vec![
-        0,
-        1 << 63,
-        1,
-        0x3fb9_9999_9999_9998,
-        0x7fef_ffff_ffff_ffff,
-        0x4340_0000_0000_0001,
-        f64::INFINITY.to_bits(),
-        f64::NEG_INFINITY.to_bits(),
-        f64::NAN.to_bits() + 1,
-    ];
-    bits.extend((0..200).map(|_| numbers.next()));
-    let constants: Vec<Vec<u8>> = bits
-        .iter()
-        .map(|bits| [&[5][..], &bits.to_le_bytes()].concat())
-        .collect();
-    let path = folder.file("floats.mrb", &of_constants(&constants));
-    for read in read_back(&path) {
-        assert_eq!(read.len(), bits.len());
-        for (bits, constant) in bits.iter().zip(&read) {
-            let number = f64::from_bits(*bits);
-            assert_eq!(constant.get("hex").text(), hex(&bits.to_le_bytes()));
-            match constant.get("value") {
-                Value::Number(read) => assert_eq!(read.to_bits(), *bits),
-                value if number.is_nan() => assert_eq!(value.text(), "NaN"),
-                value => assert_eq!(value.text().parse(), Ok(number)),
-            }
-        }
-    }
-    // The rows for readers as well.
-    let rows = run(&["load", &path]).out;
-    let rows = rows.lines().filter(|line| line.contains("  float  "));
-    for (bits, row) in bits.iter().zip(rows) {
-        let read: f64 = row.split_whitespace().last().unwrap().parse().unwrap();
-        assert!(read.to_bits() == *bits || read.is_nan(), "{row}");
-    }
 }
 
 #[test]

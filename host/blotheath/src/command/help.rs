@@ -24,14 +24,15 @@ Examples
 const LOAD: &str = "\
 blotheath load FILE [--json] [--all]
 
-The rows of a file that loads: records, handlers, constants, symbols, local names, debug files, lines. Text is escaped. Up
-to 65,536 rows of a kind are shown, as many as a file without overlapping records can have, and up to 48 bytes of a text,
-on a terminal as in a pipe; --all shows every row, and every text whole. Loading does not examine: exit status 0 says that
-the file loads.
+The rows of a file that loads: records, handlers, constants, symbols, local names, debug files, lines. Text is escaped; a
+zero byte, which a constant may have inside, is \\0, or \\x00 before a digit from 0 to 7. Up to 65,536 rows of a kind are
+shown, as many as a file without overlapping records can have, and up to 48 bytes of a text, on a terminal as in a pipe;
+--all shows every row, and every text whole. Loading does not examine: exit status 0 says that the file loads.
 
 JSON has constants, symbols, strings and file names whole; a local's name and a record's file name, which many rows may
 share, have up to 256 bytes without --all, and \"cut\" where that is not all. A whole number beyond 2^53, which many readers
 of JSON round, is also there as a string, \"exact\". Floats read back to the same bits; NaN, inf and -inf are strings.
+Text reads back to the same bytes, a zero byte from \\u0000; what is not UTF-8 is there in hexadecimal digits, as \"hex\".
 
 Examples
     blotheath load oval.mrb

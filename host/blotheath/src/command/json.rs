@@ -211,6 +211,7 @@ mod tests {
     fn strings() {
         let shown = written(|json| json.string("a\"\\\n\t\u{1b}é"));
         assert_eq!(shown, "\"a\\\"\\\\\\n\\u0009\\u001bé\"");
+        assert_eq!(written(|json| json.string("\x001")), r#""\u00001""#);
         let bytes = written(|json| json.object(|json| json.text_member(&[255, 0])));
         assert_eq!(bytes, r#"{"hex":"ff00"}"#);
         let hidden = written(|json| json.string("\u{ad}\u{200b}\u{202e}\u{feff}\u{e0041}木"));

@@ -29,11 +29,28 @@ pub fn is_hidden(character: char) -> bool {
     is_escaped || BLANKS.contains(&character)
 }
 
-/// Adds a character as it is, or its escape.
-fn push(shown: &mut String, character: char) {
-    match is_hidden(character) && !character.is_ascii() {
-        true => shown.extend(character.escape_unicode()),
-        false => shown.extend(character.escape_debug()),
+/// A zero byte before a digit of base 8: `\0` and that digit are one character to a reader of Ruby.
+const ZERO_BEFORE_DIGIT: &str = "\\x00";
+
+/// Adds a character as it is, or its escape before the next one.
+fn push(shown: &mut String, character: char, next: Option<char>) {
+    match character {
+        '\0' if next.is_some_and(|next| next.is_digit(8)) => shown.push_str(ZERO_BEFORE_DIGIT),
+        _ if is_hidden(character) && !character.is_ascii() => {
+            shown.extend(character.escape_unicode());
+        }
+        _ => shown.extend(character.escape_debug()),
+    }
+}
+
+/// Adds text escaped, but for these marks.
+fn push_text(shown: &mut String, text: &str, marks: &[char]) {
+    let mut characters = text.chars().peekable();
+    while let Some(character) = characters.next() {
+        match marks.contains(&character) {
+            true => shown.push(character),
+            false => push(shown, character, characters.peek().copied()),
+        }
     }
 }
 
@@ -41,12 +58,7 @@ fn push(shown: &mut String, character: char) {
 pub fn escaped(bytes: &[u8]) -> String {
     let mut shown = String::new();
     for chunk in bytes.utf8_chunks() {
-        for character in chunk.valid().chars() {
-            match character {
-                '\'' => shown.push('\''),
-                other => push(&mut shown, other),
-            }
-        }
+        push_text(&mut shown, chunk.valid(), &['\'']);
         for byte in chunk.invalid() {
             shown += &format!("\\x{byte:02x}");
         }
@@ -57,12 +69,7 @@ pub fn escaped(bytes: &[u8]) -> String {
 /// Text with nothing escaped but what is not visible.
 pub fn visible(text: &str) -> String {
     let mut shown = String::new();
-    for character in text.chars() {
-        match character {
-            '\'' | '"' | '\\' => shown.push(character),
-            other => push(&mut shown, other),
-        }
-    }
+    push_text(&mut shown, text, &['\'', '"', '\\']);
     shown
 }
 
@@ -70,13 +77,19 @@ pub fn visible(text: &str) -> String {
 pub fn quoted(bytes: &[u8], most: usize) -> String {
     match bytes.get(..most) {
         Some(start) if bytes.len() > most => {
-            let length = bytes.len();
-            format!(
-                "\"{}\"... ({length} bytes)",
-                escaped(whole_characters(start))
-            )
+            let start = escaped(whole_characters(start));
+            format!("\"{start}\"... ({})", length(bytes))
         }
         _ => format!("\"{}\"", escaped(bytes)),
+    }
+}
+
+/// How many bytes a text has, and how many of them are zero.
+fn length(bytes: &[u8]) -> String {
+    let told = format!("{} bytes", bytes.len());
+    match bytes.iter().filter(|byte| **byte == 0).count() {
+        0 => told,
+        zeros => format!("{told}, {zeros} of them zero"),
     }
 }
 
@@ -276,6 +289,30 @@ mod tests {
             assert!(!words.contains("os error") && !words.is_empty(), "{words}");
         }
         assert_eq!(fault(&io::Error::other("a fault")), "a fault");
+    }
+
+    #[test]
+    fn zero_bytes_are_seen() {
+        for (bytes, shown) in [
+            (&b"a\0b"[..], r"a\0b"),
+            (b"a\\0b", r"a\\0b"),
+            (b"\0\0", r"\0\0"),
+            (b"\x000\x007\x008\0a", r"\x000\x007\08\0a"),
+            (b"\0\xff\0", r"\0\xff\0"),
+            (b"\x01\x10", r"\u{1}\u{10}"),
+        ] {
+            assert_eq!(escaped(bytes), shown);
+        }
+        assert_eq!(visible("\0a\x001"), r"\0a\x001");
+        assert_eq!(quoted(b"ab\0", 3), r#""ab\0""#);
+        assert_eq!(
+            quoted(b"ab\0c", 3),
+            r#""ab\0"... (4 bytes, 1 of them zero)"#
+        );
+        assert_eq!(
+            quoted(b"abc\0\0", 3),
+            r#""abc"... (5 bytes, 2 of them zero)"#
+        );
     }
 
     #[test]

@@ -124,34 +124,48 @@ impl<'a> Part<'a> {
         Err(self.met(12, self.place - 1, what))
     }
 
-    /// A text that a zero byte ends.
-    fn ended_text(&mut self, thing: Arguments) -> Result<(), Met> {
+    /// Where a text begins, and its bytes, with so many more behind it.
+    fn sized(&mut self, behind: usize, thing: Arguments) -> Result<(usize, &'a [u8]), Met> {
         let length = self.two(thing)? as usize;
         let start = self.place;
-        let bytes = self.bytes(length + 1, thing)?;
-        match bytes.iter().position(|byte| *byte == 0) {
-            Some(zero) if zero == length => Ok(()),
-            Some(zero) => Err(self.zero_inside(start + zero, thing)),
-            None => {
-                let what = format!("{thing} does not end with a zero byte");
-                Err(self.met(9, start + length, what))
-            }
-        }
+        Ok((start, self.bytes(length + behind, thing)?))
+    }
+
+    /// A text that a zero byte ends; zero bytes inside are part of it.
+    fn pool_text(&mut self, thing: Arguments) -> Result<(), Met> {
+        let (_, bytes) = self.sized(1, thing)?;
+        self.ended(bytes, thing)
+    }
+
+    /// A text that a zero byte ends, without any inside.
+    fn ended_text(&mut self, thing: Arguments) -> Result<(), Met> {
+        let (start, bytes) = self.sized(1, thing)?;
+        self.without_zero(start, &bytes[..bytes.len() - 1], thing)?;
+        self.ended(bytes, thing)
     }
 
     /// A text without any zero byte.
     fn text(&mut self, thing: Arguments) -> Result<(), Met> {
-        let length = self.two(thing)? as usize;
-        let start = self.place;
-        let bytes = self.bytes(length, thing)?;
-        match bytes.iter().position(|byte| *byte == 0) {
-            Some(zero) => Err(self.zero_inside(start + zero, thing)),
-            None => Ok(()),
-        }
+        let (start, bytes) = self.sized(0, thing)?;
+        self.without_zero(start, bytes, thing)
     }
 
-    fn zero_inside(&self, byte: usize, thing: Arguments) -> Met {
-        self.met(9, byte, format!("{thing} has a zero byte inside"))
+    /// Refuses the bytes before this place where the last one is not zero.
+    fn ended(&self, bytes: &[u8], thing: Arguments) -> Result<(), Met> {
+        if bytes.ends_with(&[0]) {
+            return Ok(());
+        }
+        let what = format!("{thing} does not end with a zero byte");
+        Err(self.met(9, self.place - 1, what))
+    }
+
+    /// Refuses the bytes from a place on where one is zero.
+    fn without_zero(&self, start: usize, bytes: &[u8], thing: Arguments) -> Result<(), Met> {
+        let Some(zero) = bytes.iter().position(|byte| *byte == 0) else {
+            return Ok(());
+        };
+        let what = format!("{thing} has a zero byte inside");
+        Err(self.met(9, start + zero, what))
     }
 }
 
@@ -567,7 +581,7 @@ fn read_constant(part: &mut Part, index: u32) -> Result<(), Met> {
     let byte = part.place;
     let kind = part.one(thing)?;
     let length = match kind {
-        0 | 2 => return part.ended_text(thing),
+        0 | 2 => return part.pool_text(thing),
         1 => 4,
         3 | 5 => 8,
         7 => part.one(thing)? as usize + 1,

@@ -69,6 +69,12 @@ pub fn record(rlen: u16, code: &[u8], constants: &[&[u8]], symbols: &[&[u8]]) ->
     [head(size, 1, 8, rlen, code.len() as u32), rest].concat()
 }
 
+/// A text as a constant.
+pub fn text(bytes: &[u8]) -> Vec<u8> {
+    let length = (bytes.len() as u16).to_be_bytes();
+    [&[0], &length[..], bytes, &[0]].concat()
+}
+
 /// A file of one record.
 pub fn one(code: &[u8], constants: &[&[u8]], symbols: &[&[u8]]) -> Vec<u8> {
     file(&[irep(&record(0, code, constants, symbols))])
@@ -129,11 +135,8 @@ pub fn shared_constants(constants: usize) -> Vec<u8> {
 
 /// A file whose 1,024 records share a text.
 pub fn shared_text(length: u16) -> Vec<u8> {
-    let mut pool = vec![0, 1, 0];
-    pool.extend(length.to_be_bytes());
-    pool.extend(vec![b'x'; length.into()]);
-    pool.push(0);
-    shared_pool(&pool)
+    let text = text(&vec![b'x'; length.into()]);
+    shared_pool(&[&[0, 1], &text[..]].concat())
 }
 
 /// Records whose code ends where one pool begins.
@@ -166,9 +169,7 @@ pub fn many_jumps() -> Vec<u8> {
 
 /// A file of one record where every step names a constant of nearly the whole file.
 pub fn long_constant() -> Vec<u8> {
-    let mut text = vec![0, 0xb0, 0];
-    text.extend([b'<'; 0xb000]);
-    text.push(0);
+    let text = text(&[b'<'; 0xb000]);
     let mut code = [92, 0, 0].repeat(6_000);
     code.push(118);
     one(&code, &[&text], &[])

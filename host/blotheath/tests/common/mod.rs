@@ -35,6 +35,14 @@ pub fn files() -> Vec<PathBuf> {
     files
 }
 
+/// The files of the corpus that a compiler made of a source, without lines and with them; none where the corpus is not there.
+pub fn compiled(name: &str) -> Vec<PathBuf> {
+    let ends = [format!("{name}.mrb"), format!("{name}-g.mrb")];
+    let mut files = files();
+    files.retain(|path| ends.iter().any(|end| path.ends_with(end)));
+    files
+}
+
 /// What a command gave.
 #[derive(Debug)]
 pub struct Ran {
