@@ -12,7 +12,6 @@ use std::collections::BTreeMap;
 /// What examination answers on a file of the corpus, by the corpus's own description.
 pub fn of_corpus(name: &str) -> Refusal {
     match name {
-        n if n.starts_with("25_zero_in_string") => 9,
         n if n.starts_with("27_wide_operands") => 16,
         _ => 0,
     }

@@ -214,7 +214,12 @@ fn names_alone(file: &[u8], start: usize) -> Result<Vec<Vec<u8>>, String> {
     }
 }
 
-/// Holds every lookup's answer against the original's value.
+/// The whole number of eight bytes by paper 02, "read high byte first", from the original's, which is low byte first.
+fn high_byte_first(original: i64) -> i64 {
+    original.swap_bytes()
+}
+
+/// Holds every lookup's answer against the original's value, but for eight-byte integers, which have paper 02's rule.
 fn values(subject: &dyn Subject, file: &[u8], rite: &Rite, tables: &Tables) -> Result<(), String> {
     for (r, irep) in rite.irep.iter().enumerate() {
         let r = r as u32;
@@ -244,7 +249,7 @@ fn values(subject: &dyn Subject, file: &[u8], rite: &Rite, tables: &Tables) -> R
                     text.of(file) == s.as_bytes()
                 }
                 (Ok(Constant::Int(n)), PoolValue::Int32(m)) => n == i64::from(*m),
-                (Ok(Constant::Int(n)), PoolValue::Int64(m)) => n == *m,
+                (Ok(Constant::Int(n)), PoolValue::Int64(m)) => n == high_byte_first(*m),
                 (Ok(Constant::Float(x)), PoolValue::Float(y)) => x.to_bits() == y.to_bits(),
                 (Ok(Constant::Big(big)), PoolValue::BigInt(bytes)) => big.of(file) == bytes,
                 _ => false,

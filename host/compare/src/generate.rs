@@ -256,6 +256,24 @@ impl Maker {
             .collect()
     }
 
+    /// A pool string's text, which has zeros once in a while: one, any, at its end, or nothing else.
+    fn pool_text(&mut self) -> Vec<u8> {
+        let mut text = self.text();
+        if text.is_empty() || !self.rng.one_in(8) {
+            return text;
+        }
+        let last = text.len() - 1;
+        match self.rng.below(4) {
+            0 => text[self.rng.below(last + 1)] = 0,
+            1 => text
+                .iter_mut()
+                .for_each(|byte| *byte *= self.rng.pick(&[0, 1])),
+            2 => text[last] = 0,
+            _ => text.fill(0),
+        }
+        text
+    }
+
     /// A text that no other in its list has, most of the time.
     fn own_text(&mut self, number: usize) -> Vec<u8> {
         let mut text = self.text();
@@ -284,7 +302,7 @@ impl Maker {
         let mut entry = vec![kind];
         match kind {
             0 | 2 => {
-                let text = self.text();
+                let text = self.pool_text();
                 entry.extend(self.counted_text(text, true));
             }
             1 => entry.extend(self.number(4)),
@@ -1141,6 +1159,7 @@ impl Maker {
             _ => self.rng.between(1_015, 1_030),
         };
         let chain = self.rng.below(3);
+        let any_first = self.rng.one_in(2);
         let mut records = Vec::new();
         for i in 0..count {
             let rlen = match chain {
@@ -1148,6 +1167,10 @@ impl Maker {
                 1 if i == 0 => count - 1,
                 _ => 0,
             };
+            if i == 0 && any_first {
+                records.extend(self.record(rlen, None, 0));
+                continue;
+            }
             records.extend([0, 0, 0, 20, 0, 1, 0, 1]);
             records.extend(be2(rlen));
             records.extend([0; 10]);
@@ -1404,13 +1427,55 @@ impl Maker {
 #[cfg(test)]
 mod tests {
     use super::*;
+    use crate::held::is_string;
+
+    /// A generator with the corpus, where it is there.
+    fn generator() -> Generator {
+        let corpus = crate::load::corpus().into_iter().map(|(_, file)| file);
+        Generator {
+            corpus: corpus.collect(),
+        }
+    }
+
+    /// The texts of a file's pool strings, where it loads.
+    fn pool_texts(file: &[u8]) -> Vec<&[u8]> {
+        let reading = model::read(file, [usize::MAX; 9]);
+        if reading.end.is_err() {
+            return Vec::new();
+        }
+        let strings = reading.rows.pool.rows.into_iter();
+        strings
+            .filter(is_string)
+            .map(|row| &file[row.place as usize..][..row.length as usize])
+            .collect()
+    }
+
+    #[test]
+    fn pool_strings_have_zeros_inside() {
+        let generator = generator();
+        let files: [&dyn Fn(u64) -> Vec<u8>; 3] = [
+            &|index| generator.file(1, index).1,
+            &|index| generator.examinable(1, index),
+            &|index| generator.runnable(1, index),
+        ];
+        for file in files {
+            let files: Vec<Vec<u8>> = (0..2_000).map(file).collect();
+            let texts: Vec<&[u8]> = files.iter().flat_map(|file| pool_texts(file)).collect();
+            let shapes: [fn(&[u8]) -> bool; 4] = [
+                |text| text.len() > 1 && text.iter().all(|byte| *byte == 0),
+                |text| text.len() > 1 && text[0] != 0 && text.ends_with(&[0]),
+                |text| text.contains(&0) && !text.ends_with(&[0]),
+                |text| !text.is_empty() && !text.contains(&0),
+            ];
+            for is_such in shapes {
+                assert!(texts.iter().any(|text| is_such(text)));
+            }
+        }
+    }
 
     #[test]
     fn one_family_meets_27_and_28() {
-        let corpus = crate::load::corpus().into_iter().map(|(_, file)| file);
-        let generator = Generator {
-            corpus: corpus.collect(),
-        };
+        let generator = generator();
         let mut met = Vec::new();
         for index in 0..3_000 {
             let (family, file) = generator.file(1, index);

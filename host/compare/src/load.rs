@@ -4,10 +4,11 @@ use crate::Stop;
 use crate::args::Args;
 use crate::expected;
 use crate::generate::{FAMILIES, Generator, state_size};
+use crate::held::Held;
 use crate::oracle::{self, OWN_RULE, Outcome};
 use crate::rng::Rng;
 use crate::subject::{Subject, first_difference, subjects};
-use model::{Entry, HEADER, NAMES, ROW_WORDS, Record, Refusal, Rows, Sizes, Tables};
+use model::{Entry, HEADER, Loaded, NAMES, ROW_WORDS, Record, Refusal, Rows, Sizes, Tables};
 use original::Error;
 use std::collections::BTreeMap;
 use std::path::PathBuf;
@@ -24,6 +25,8 @@ pub struct Counts {
     files: u64,
     by_number: BTreeMap<Refusal, u64>,
     by_end: BTreeMap<(Refusal, &'static str), u64>,
+    /// Files that are left out for zeros inside pool strings, and those of them that have a twin, by their number.
+    left_out: BTreeMap<Refusal, [u64; 2]>,
     by_family: [[u64; 2]; FAMILIES.len()],
     rows: [u64; 9],
     used: [u64; 9],
@@ -44,10 +47,7 @@ impl Counts {
                 .filter(|((n, _), _)| *n == number)
                 .map(|((_, end), files)| format!("{end} {files}"))
                 .collect();
-            let name = match number {
-                0 => "loaded".to_owned(),
-                n => format!("refused {n}"),
-            };
+            let name = answer_words(number);
             let end = match number {
                 _ if files == 0 => "never met".to_owned(),
                 n if OWN_RULE.contains(&n) => "left out, the comparison's own rule".to_owned(),
@@ -58,6 +58,7 @@ impl Counts {
         }
         let called: u64 = self.by_end.values().sum();
         text += &format!("held against the original's load: {called}\n");
+        text += &self.left_out_words();
         if self.by_family.iter().flatten().any(|files| *files > 0) {
             text += "families (files, loaded):\n";
             for (name, [files, loaded]) in FAMILIES.iter().zip(self.by_family) {
@@ -75,6 +76,21 @@ impl Counts {
             text += &format!("  {shape:<22}{files:>7}\n");
         }
         text += &format!("loads over lent tables of other sizes: {:?}\n", self.lent);
+        text
+    }
+
+    /// The counts of files with zeros inside pool strings in words.
+    fn left_out_words(&self) -> String {
+        let sum = |side: usize| self.left_out.values().map(|files| files[side]).sum::<u64>();
+        let [loaded, _] = self.left_out.get(&0).copied().unwrap_or_default();
+        let mut text = format!(
+            "left out for zeros inside pool strings: {}, of which {loaded} load; held by a twin: {} (files, twins):\n",
+            sum(0),
+            sum(1)
+        );
+        for (number, [files, twins]) in &self.left_out {
+            text += &format!("  {:<11}{files:>9}{twins:>9}\n", answer_words(*number));
+        }
         text
     }
 
@@ -105,10 +121,14 @@ impl Counts {
         has("passing", model::passes(file, rows).is_ok());
     }
 
-    fn count(&mut self, number: Refusal, end: Option<&'static str>, tables: &Tables) {
+    fn count(&mut self, number: Refusal, held: &Held, end: Option<&'static str>, tables: &Tables) {
         self.files += 1;
         *self.by_number.entry(number).or_default() += 1;
-        if let Some(end) = end {
+        if held.is_left_out() {
+            let [files, twins] = self.left_out.entry(number).or_default();
+            *files += 1;
+            *twins += u64::from(matches!(held, Held::Twin(_)));
+        } else if let Some(end) = end {
             *self.by_end.entry((number, end)).or_default() += 1;
         }
         if number != 0 {
@@ -120,6 +140,14 @@ impl Counts {
                 self.pool_kinds[row[0] as usize] += 1;
             }
         }
+    }
+}
+
+/// The answer of a load in words.
+fn answer_words(number: Refusal) -> String {
+    match number {
+        0 => "loaded".to_owned(),
+        n => format!("refused {n}"),
     }
 }
 
@@ -337,17 +365,8 @@ pub fn garbage(sizes: &Sizes, rng: &mut Rng) -> Tables {
     sizes.0.map(|words| vec![word; words])
 }
 
-/// Holds every subject against the original on one file; answers the number.
-pub fn one(
-    subjects: &[Box<dyn Subject>],
-    file: &[u8],
-    rng: &mut Rng,
-    counts: &mut Counts,
-) -> Result<Refusal, String> {
-    at_work(file);
-    let reading = model::read(file, [usize::MAX; 9]);
-    let needed = reading.rows.used();
-    let number = reading.end.err().unwrap_or(0);
+/// Holds a number against the original's readers of this file and its load; answers how its load ends, where it is called.
+fn by_original(number: Refusal, file: &[u8]) -> Result<Option<Outcome<'_>>, String> {
     let exact = oracle::number(file);
     if exact != number {
         return Err(format!(
@@ -363,6 +382,24 @@ pub fn one(
             outcome.words()
         ));
     }
+    Ok(outcome)
+}
+
+/// Holds every subject against the original on one file, or on its twin; answers the number.
+pub fn one(
+    subjects: &[Box<dyn Subject>],
+    file: &[u8],
+    rng: &mut Rng,
+    counts: &mut Counts,
+) -> Result<Refusal, String> {
+    at_work(file);
+    let reading = model::read(file, [usize::MAX; 9]);
+    let needed = reading.rows.used();
+    let number = reading.end.err().unwrap_or(0);
+    let held = Held::of(file, &reading)?;
+    let bytes = held.bytes(file);
+    let outcome = bytes.map(|bytes| by_original(number, bytes));
+    let outcome = outcome.transpose()?.flatten();
     for subject in subjects {
         let rows = needed.map(|rows| rows + rng.below(3));
         let mut sizes = Sizes::of_rows(rows);
@@ -375,19 +412,16 @@ pub fn one(
         if answer.refusal != number {
             return Err(format!("{name} answers {}, not {number}", answer.refusal));
         }
-        match &outcome {
-            Some(Outcome::Loaded(rite)) => {
-                expected::compare(&**subject, file, rite, &answer, &tables)
-                    .map_err(|why| format!("{name} and the original: {why}"))?;
-            }
-            _ => {
-                if answer.rows != [0; 9] || tables.iter().flatten().any(|w| *w != 0) {
-                    return Err(format!("{name} refuses and leaves rows"));
-                }
-            }
+        if let (Some(bytes), Some(Outcome::Loaded(rite))) = (bytes, &outcome) {
+            expected::compare(&**subject, bytes, rite, &answer, &tables)
+                .map_err(|why| format!("{name} and the original: {why}"))?;
+        }
+        let has_rows = answer.rows != [0; 9] || tables.iter().flatten().any(|w| *w != 0);
+        if number != 0 && has_rows {
+            return Err(format!("{name} refuses and leaves rows"));
         }
         if subject.name() == "model" {
-            counts.count(number, outcome.as_ref().map(end_of), &tables);
+            counts.count(number, &held, outcome.as_ref().map(end_of), &tables);
             if number == 0 {
                 counts.count_shapes(file, &reading.rows);
                 for (t, rows) in answer.rows.iter().enumerate() {
@@ -396,6 +430,10 @@ pub fn one(
                 }
             }
         }
+    }
+    if held.is_left_out() {
+        let fitting = Sizes::of_rows(needed);
+        as_model(subjects, file, &fitting, &model::load(file, &fitting), rng)?;
     }
     let sizes = other_sizes(needed, rng);
     lent(subjects, file, number, needed, &sizes, rng, counts)?;
@@ -452,17 +490,28 @@ fn lent(
             sizes.0, loaded.refusal
         ));
     }
+    as_model(subjects, file, sizes, &loaded, rng)
+}
+
+/// Holds every subject over lent tables against the model's answer word for word.
+fn as_model(
+    subjects: &[Box<dyn Subject>],
+    file: &[u8],
+    sizes: &Sizes,
+    right: &Loaded,
+    rng: &mut Rng,
+) -> Result<(), String> {
     for subject in subjects {
         let mut tables = garbage(sizes, rng);
         let answer = subject.load(file, &mut tables);
         let name = subject.name();
-        if (answer.refusal, answer.rows) != (loaded.refusal, loaded.rows) {
+        if (answer.refusal, answer.rows) != (right.refusal, right.rows) {
             return Err(format!(
                 "over {:?} words {name} answers {answer:?}, the model {} and {:?}",
-                sizes.0, loaded.refusal, loaded.rows
+                sizes.0, right.refusal, right.rows
             ));
         }
-        if let Some(difference) = first_difference(&tables, &loaded.tables) {
+        if let Some(difference) = first_difference(&tables, &right.tables) {
             return Err(format!(
                 "over {:?} words {name} and the model: {difference}",
                 sizes.0

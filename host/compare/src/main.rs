@@ -8,6 +8,7 @@ mod expected;
 mod fetch;
 mod follow;
 mod generate;
+mod held;
 mod lines;
 mod load;
 mod lookups;

@@ -16,6 +16,8 @@ pub const TOO_LONG: Refusal = 1;
 const SECTION_ORDER: Refusal = 6;
 /// "8: after its content, an IREP, LVAR or END section or a record has size 0."
 const SIZE_0: Refusal = 8;
+/// "9: a string breaks its zero rule"
+const ZERO_RULE: Refusal = 9;
 /// "14: a needed row is beyond its lent table or the 1,024 records"
 pub const NO_ROW: Refusal = 14;
 /// "27 when the first four bytes are not ASCII RITE"
@@ -121,12 +123,25 @@ impl End {
     }
 }
 
-/// The number that the papers give to a file, 0 for a load, by the original's own readers of one section each.
+/// The number that the papers give to a file without zeros inside pool strings, 0 for a load, by the original's own readers of one section each.
 pub fn number(file: &[u8]) -> Refusal {
     match header(file).and_then(|()| sections(&file[HEADER..])) {
         Ok(()) => 0,
         Err(number) => number,
     }
+}
+
+/// Holds that the original refuses a file by a string's zero rule: its readers by their number, its `load` by its end.
+pub fn breaks_zero_rule(file: &[u8]) -> Result<(), String> {
+    let exact = number(file);
+    let outcome = load(file);
+    if exact != ZERO_RULE || !matches!(outcome, Outcome::Refused(Error::InvalidFormat)) {
+        return Err(format!(
+            "the original's readers answer {exact} to zeros inside pool strings, the original {}",
+            outcome.words()
+        ));
+    }
+    Ok(())
 }
 
 /// The tests that come before the sections; Err is the number.
@@ -203,7 +218,7 @@ fn four(bytes: &[u8]) -> usize {
 /// IREP; no call is made that reads a record of size 0 for ever or more records than the limit.
 fn irep(head: &[u8]) -> Result<(usize, Vec<Irep<'_>>), Refusal> {
     // The only `InvalidFormat` of IREP is a string's.
-    let read = |head| section(|| rite::section_irep_1(head)).map_err(|end| end.number(9));
+    let read = |head| section(|| rite::section_irep_1(head)).map_err(|end| end.number(ZERO_RULE));
     if head.len() >= 12 && four(&head[4..]) <= head.len() {
         let size = four(&head[4..]);
         let mut place = 12;
@@ -215,7 +230,7 @@ fn irep(head: &[u8]) -> Result<(usize, Vec<Irep<'_>>), Refusal> {
                     let mut before = head.to_vec();
                     before[4..8].copy_from_slice(&(place as u32).to_be_bytes());
                     section(|| rite::section_irep_1(&before).map(|_| ()))
-                        .map_err(|end| end.number(9))?;
+                        .map_err(|end| end.number(ZERO_RULE))?;
                 }
                 if count == RECORD_LIMIT {
                     return Err(if head.len() - place < 16 { 7 } else { NO_ROW });
@@ -224,7 +239,7 @@ fn irep(head: &[u8]) -> Result<(usize, Vec<Irep<'_>>), Refusal> {
                 let mut alone = b"IREP\0\0\0\x0d\0\0\0\0\0\0\0\x01".to_vec();
                 alone.extend(&head[place + 4..]);
                 section(|| rite::section_irep_1(&alone).map(|_| ()))
-                    .map_err(|end| end.number(9))?;
+                    .map_err(|end| end.number(ZERO_RULE))?;
                 return Err(SIZE_0);
             }
             place += stated;
@@ -242,7 +257,7 @@ fn lvar(head: &[u8], records: &mut [Irep]) -> Result<usize, Refusal> {
             // Without records only the strings are read.
             let strings = section(|| rite::section_lvar(head, &mut []));
             let of_strings = strings.is_err_and(|end| end.is_invalid());
-            Err(end.number(if of_strings { 9 } else { 11 }))
+            Err(end.number(if of_strings { ZERO_RULE } else { 11 }))
         }
     }
 }
@@ -261,7 +276,7 @@ fn dbg(head: &[u8], records: &[Irep]) -> Result<usize, Refusal> {
             // Without records only the file names are read.
             let names = debug_alone(&[], part);
             let of_names = names.is_err_and(|end| end.is_invalid());
-            Err(end.number(if of_names { 9 } else { 12 }))
+            Err(end.number(if of_names { ZERO_RULE } else { 12 }))
         }
     }
 }

@@ -21,7 +21,7 @@
 //! 9 LOOKUP REC INDEX N A B C D E
 //!                           a lookup in these bytes and nine tables: refusal's number or 0, then the fields of its answer, zeros behind them
 //! 10 REC INDEX N KIND PLACE LENGTH INT FLOAT
-//!                           a constant's lookup; INT and FLOAT have eight bytes, low byte first
+//!                           a constant's lookup; INT has eight bytes, high byte first, FLOAT eight, low byte first
 //! ```
 //!
 //! The nine tables are records (19 words a row), handlers (4), pool (3), symbols (2), strings (2), names (1),
@@ -31,7 +31,8 @@
 //! The sum begins with 0; for each word w, table by table, it becomes (sum * 65599 + w + 1) modulo 4294967291.
 //! A replay fills the lent words with anything but the answer before each call, so that the sum shows every word written.
 //!
-//! Answers of load are the model's, held against the original before they are stored; 1, 6, 8, 14, 27 and 28 have no counterpart there.
+//! Answers of load are the model's, held against the original before they are stored; 1, 6, 8, 14, 27 and 28 have no counterpart there,
+//! and for files with zeros inside pool strings their twins are held (`held.rs`).
 //! Answers of fetch and of line lookups in maps are the original's. Those of examination, follow and the seven lookups are the model's:
 //! the original has none of them.
 
@@ -41,6 +42,7 @@ use crate::expected;
 use crate::fetch;
 use crate::follow;
 use crate::generate::{Generator, overwrite, state_size};
+use crate::held::Held;
 use crate::lines;
 use crate::load::{ANSWERS, Counts, corpus, garbage, one, other_sizes};
 use crate::lookups;
@@ -58,6 +60,12 @@ const LONGEST: usize = 700;
 const MOST: [usize; 9] = [
     20_000, 8_192, 8_192, 8_192, 8_192, 8_192, 8_192, 8_192, 8_192,
 ];
+/// The numbers of the tables that samples use.
+const RECORDS: usize = 0;
+const POOL: usize = 2;
+const SYMBOLS: usize = 3;
+const STRINGS: usize = 4;
+const FILE_NAMES: usize = 6;
 /// The most words of a frame table.
 const MOST_FRAMES: usize = 2_048;
 /// The most words of a stored item of words.
@@ -75,6 +83,7 @@ pub fn write(args: &Args) -> Result<(), Stop> {
     loads(&mut calls, seed, count as usize, &mut counts).map_err(Stop::Difference)?;
     examinable_files(&mut calls, seed)?;
     let mut lookups = Store::default();
+    constant_samples(&mut lookups).map_err(Stop::Difference)?;
     fetches(&mut lookups, seed).map_err(Stop::Difference)?;
     maps(&mut lookups, seed);
     looked_up(&mut lookups, seed)?;
@@ -150,6 +159,10 @@ fn nine(followed: &Follow) -> [u32; 9] {
     nine
 }
 
+/// Where the pool and the symbols of File A's record begin, and where its END does.
+const A_LISTS: usize = 52;
+const A_END: usize = 56;
+
 /// Paper 01's File A: 64 bytes.
 fn file_a() -> Vec<u8> {
     let mut file = b"RITE0400\0\0\0\x40\0\0\0\0\0\0\0\0".to_vec();
@@ -183,11 +196,12 @@ fn samples(store: &mut Store) -> Result<(), String> {
         (end_alone(0), 8, 0),
         (end_alone(12)[..31].to_vec(), 4, 0),
     ] {
-        sample(store, 2, &file, refusal, records)?;
+        sample(store, 2, &file, refusal, of_records(records))?;
     }
     header_samples(store, &a)?;
-    sample(store, 7, &end_alone(12), 15, 0)?;
-    sample(store, 7, &jump, 18, 0)?;
+    text_samples(store)?;
+    sample(store, 7, &end_alone(12), 15, [0; 9])?;
+    sample(store, 7, &jump, 18, [0; 9])?;
     sample_run(store, &a, &[0], [0, 0, 2, 0, 0, 1])?;
     sample_run(store, &a, &[0, 0], [1, 0, 0, 0, 0, 0])?;
     store.bytes(6, b"samples of the papers");
@@ -213,20 +227,97 @@ fn header_samples(store: &mut Store, a: &[u8]) -> Result<(), String> {
         overwrite(&mut file, 0, ident);
         state_size(&mut file, size);
         overwrite(&mut file, 4, major);
-        let records = u32::from(refusal == 0);
-        sample(store, 2, &file[..length], refusal, records)?;
-        sample(store, 7, &file[..length], refusal, records)?;
+        loaded_and_examined(store, &file[..length], refusal, RECORDS)?;
     }
     Ok(())
 }
 
-/// A load or an examination over tables of one row each: the refusal's number or 0, and the records.
+/// File A with these bytes for its pool and symbols, and with these sections before END.
+fn file_a_with(lists: &[u8], sections: &[u8]) -> Vec<u8> {
+    let a = file_a();
+    let mut file = [&a[..A_LISTS], lists, sections, &a[A_END..]].concat();
+    let more = (lists.len() - (A_END - A_LISTS)) as u32;
+    overwrite(&mut file, 24, &(36 + more).to_be_bytes());
+    overwrite(&mut file, 32, &(24 + more).to_be_bytes());
+    let length = file.len();
+    state_size(&mut file, length);
+    file
+}
+
+/// The pool of one string of this kind, with a byte behind its text, and no symbols.
+fn pool_of_text(kind: u8, text: &[u8], last: u8) -> Vec<u8> {
+    let head = [0, 1, kind, 0, text.len() as u8];
+    [&head[..], text, &[last, 0, 0]].concat()
+}
+
+/// File A with a text at each place where one can stand: "Pool strings may have zero bytes inside; the last byte must still be zero."
+fn text_samples(store: &mut Store) -> Result<(), String> {
+    for text in [&b""[..], b"ab", b"a\0b", b"a\0", b"\0b", b"\0", b"\0\0\0"] {
+        let counted = [&[0, text.len() as u8][..], text].concat();
+        for kind in [0, 2] {
+            for (last, refusal) in [(0, 0), (1, 9), (255, 9)] {
+                let file = file_a_with(&pool_of_text(kind, text, last), &[]);
+                loaded_and_examined(store, &file, refusal, POOL)?;
+            }
+        }
+        // "Symbols, local names and file names keep their rule."
+        let refusal = if text.contains(&0) { 9 } else { 0 };
+        let symbol = [&[0, 0, 0, 1][..], &counted, &[0]].concat();
+        loaded_and_examined(store, &file_a_with(&symbol, &[]), refusal, SYMBOLS)?;
+        let size = counted.len() as u8;
+        let local = [&b"LVAR\0\0\0"[..], &[12 + size, 0, 0, 0, 1], &counted].concat();
+        loaded_and_examined(store, &file_a_with(&[0; 4], &local), refusal, STRINGS)?;
+        let name = [&b"DBG\0\0\0\0"[..], &[10 + size, 0, 1], &counted].concat();
+        loaded_and_examined(store, &file_a_with(&[0; 4], &name), refusal, FILE_NAMES)?;
+    }
+    order_samples(store)
+}
+
+/// File A with pool strings that have a zero inside: which number is met first.
+fn order_samples(store: &mut Store) -> Result<(), String> {
+    // The byte behind the text is END's last but one, its last, or past the file.
+    let long = |length: u8| vec![0, 1, 0, 0, length, b'a', 0];
+    for (lists, refusal) in [
+        (long(8), 7),
+        (long(9), 9),
+        (long(10), 7),
+        // A second constant: of an unknown kind, with another last byte, good but without a row.
+        (vec![0, 2, 0, 0, 1, 0, 0, 4, 0, 0], 10),
+        (vec![0, 2, 0, 0, 1, 0, 0, 2, 0, 1, 0, 1, 0, 0], 9),
+        (vec![0, 2, 0, 0, 1, 0, 0, 2, 0, 1, 0, 0, 0, 0], 14),
+        // A symbol with a zero inside.
+        (vec![0, 1, 2, 0, 1, 0, 0, 0, 1, 0, 1, 0, 0], 9),
+    ] {
+        loaded_and_examined(store, &file_a_with(&lists, &[]), refusal, POOL)?;
+    }
+    Ok(())
+}
+
+/// A load and an examination of a sample: refused, or with a row of the record and one of this table.
+fn loaded_and_examined(
+    store: &mut Store,
+    file: &[u8],
+    refusal: u32,
+    table: usize,
+) -> Result<(), String> {
+    let mut rows = of_records(u32::from(refusal == 0));
+    rows[table] = rows[RECORDS];
+    sample(store, 2, file, refusal, rows)?;
+    sample(store, 7, file, refusal, rows)
+}
+
+/// The rows of a load that uses so many records and no other row.
+fn of_records(records: u32) -> [u32; 9] {
+    [records, 0, 0, 0, 0, 0, 0, 0, 0]
+}
+
+/// A load or an examination over tables of one row each: the refusal's number or 0, and the rows.
 fn sample(
     store: &mut Store,
     kind: u32,
     file: &[u8],
     refusal: u32,
-    records: u32,
+    rows: [u32; 9],
 ) -> Result<(), String> {
     let sizes = Sizes::of_rows([1; 9]);
     let mut tables = garbage(&sizes, &mut Rng::new(0, 0));
@@ -234,7 +325,6 @@ fn sample(
         2 => Model.load(file, &mut tables),
         _ => Model.examine(file, &mut tables),
     };
-    let rows = [records, 0, 0, 0, 0, 0, 0, 0, 0];
     if answer != (Answer { refusal, rows }) {
         return Err(format!("a sample's answer is {answer:?}"));
     }
@@ -366,8 +456,11 @@ fn one_file(
     // What is stored does not depend on how many subjects there are.
     let mut other = Rng::new(rng.next(), 0);
     let number = one(&subjects, file, &mut other, counts)?;
-    let outcome = oracle::load_of(number, file);
-    let needed = model::read(file, [usize::MAX; 9]).rows.used();
+    let reading = model::read(file, [usize::MAX; 9]);
+    let held = Held::of(file, &reading)?;
+    let bytes = held.bytes(file);
+    let outcome = bytes.and_then(|bytes| oracle::load_of(number, bytes));
+    let needed = reading.rows.used();
     let mut lent = vec![Sizes::of_rows(needed)];
     if rng.one_in(2) {
         lent.push(Sizes::of_rows(needed.map(|rows| rows + 1)));
@@ -379,9 +472,9 @@ fn one_file(
         let mut tables = garbage(sizes, rng);
         let answer = Model.load(file, &mut tables);
         if answer.refusal == 0
-            && let Some(Outcome::Loaded(rite)) = &outcome
+            && let (Some(bytes), Some(Outcome::Loaded(rite))) = (bytes, &outcome)
         {
-            expected::compare(&Model, file, rite, &answer, &tables)?;
+            expected::compare(&Model, bytes, rite, &answer, &tables)?;
         }
         let Answer { refusal, rows } = answer;
         store.call(2, sizes, refusal, &rows, sum(&tables, &[]));
@@ -464,6 +557,65 @@ fn examinable_files(store: &mut Store, seed: u64) -> Result<(), Stop> {
     Ok(())
 }
 
+/// Numbers and texts as constants of File A, with the papers' answers: integers high byte first, floats low byte first.
+fn constant_samples(store: &mut Store) -> Result<(), String> {
+    let integers = [
+        1,
+        -1,
+        i64::MIN,
+        i64::MAX,
+        0x0102_0304_0506_0708,
+        -0x0102_0304_0506_0708,
+        255,
+        -256,
+        1 << 32,
+        123_456_789_012,
+    ];
+    let mut constants = Vec::new();
+    let mut answers = Vec::new();
+    for integer in integers {
+        constants.push([&[3][..], &integer.to_be_bytes()].concat());
+        answers.push([1, 0, 0, integer as u64, 0]);
+    }
+    for integer in [1, -2, 0x0102_0304] {
+        constants.push([&[1][..], &i32::to_be_bytes(integer)].concat());
+        answers.push([1, 0, 0, i64::from(integer) as u64, 0]);
+    }
+    for float in [1.0, -0.1, f64::MAX] {
+        constants.push([&[5][..], &f64::to_le_bytes(float)].concat());
+        answers.push([2, 0, 0, 0, float.to_bits()]);
+    }
+    // The constants begin behind the pool's count.
+    let mut place = (A_LISTS + 2 + constants.concat().len()) as u64;
+    for (kind, text) in [(0, &b"a\0b"[..]), (2, b"\0"), (0, b"\0\0"), (2, b"")] {
+        let head = [kind, 0, text.len() as u8];
+        constants.push([&head[..], text, &[0]].concat());
+        answers.push([0, place + 3, text.len() as u64, 0, 0]);
+        place += 4 + text.len() as u64;
+    }
+    let count = [0, constants.len() as u8];
+    let file = file_a_with(&[&count[..], &constants.concat(), &[0, 0]].concat(), &[]);
+    let reading = model::read(&file, [usize::MAX; 9]);
+    let tables = reading
+        .rows
+        .loaded(&Sizes::of_rows(reading.rows.used()))
+        .tables;
+    for (index, numbers) in (0..).zip(answers) {
+        let found = Model.lookup(Lookup::Pool, &file, &tables, 0, index);
+        if found
+            != (Found {
+                refusal: 0,
+                numbers,
+            })
+        {
+            return Err(format!("constant {index} of a sample is {found:?}"));
+        }
+    }
+    lookups_in(store, &file, &tables, lookups::of_load(&reading.rows));
+    store.bytes(6, b"constants of the papers");
+    Ok(())
+}
+
 /// Lookups in the tables of loads, and in any tables.
 fn looked_up(store: &mut Store, seed: u64) -> Result<(), Stop> {
     let generator = Generator { corpus: Vec::new() };
@@ -527,7 +679,7 @@ fn lookups_in(store: &mut Store, file: &[u8], tables: &Tables, asked: Vec<(Looku
         if lookup == Lookup::Pool {
             let fields = [record, index, refusal, a as u32, b as u32, c as u32];
             store.item(10, fields);
-            store.bytes.extend(d.to_le_bytes());
+            store.bytes.extend(d.to_be_bytes());
             store.bytes.extend(e.to_le_bytes());
         } else {
             let fields = numbers.map(|number| number as u32);
@@ -624,9 +776,9 @@ impl<'a> Items<'a> {
         Ok(u32::from_be_bytes(self.bytes(4)?.try_into().unwrap()))
     }
 
-    /// Eight bytes, low byte first.
-    fn low_first(&mut self) -> Result<u64, String> {
-        Ok(u64::from_le_bytes(self.bytes(8)?.try_into().unwrap()))
+    /// The bytes of a whole number or a float.
+    fn eight(&mut self) -> Result<[u8; 8], String> {
+        Ok(self.bytes(8)?.try_into().unwrap())
     }
 
     fn numbers<const N: usize>(&mut self) -> Result<[u32; N], String> {
@@ -748,7 +900,9 @@ fn replay_items(subject: &dyn Subject, stored: &[u8]) -> Result<Vec<(String, usi
                 let [record, index, refusal] = items.numbers()?;
                 let numbers = if lookup == Lookup::Pool {
                     let [kind, place, length] = items.numbers()?.map(|number: u32| number.into());
-                    [kind, place, length, items.low_first()?, items.low_first()?]
+                    let int = u64::from_be_bytes(items.eight()?);
+                    let float = u64::from_le_bytes(items.eight()?);
+                    [kind, place, length, int, float]
                 } else {
                     items.numbers()?.map(|number: u32| number.into())
                 };

@@ -1,4 +1,4 @@
-//! Paper 01 and request g) of paper 02 as plain Rust: slow, readable, without any `unsafe`. Opcode names and operand kinds are those of insn.rs.
+//! Paper 01 and requests d) and g) of paper 02 as plain Rust: slow, readable, without any `unsafe`. Opcode names and operand kinds are those of insn.rs.
 //!
 //! Comments in quotation marks are the papers' own words.
 //! A refusal is its number; 0 stands for none where a number is answered.

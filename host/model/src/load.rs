@@ -7,7 +7,7 @@ use crate::rows::{
 use crate::{FILE_LIMIT, HEADER, Refusal, UNNAMED};
 
 /// What was read, and how the reading ended.
-#[derive(Debug, Clone)]
+#[derive(Debug, Clone, PartialEq, Eq)]
 pub struct Reading {
     /// The rows that were needed up to the end, also where it is a refusal.
     pub rows: Rows,
@@ -234,7 +234,7 @@ fn read_record(file: &[u8], start: usize, rows: &mut Rows) -> Result<usize, Refu
 
     let first = rows.symbols.rows.len();
     for _ in 0..part.two()? {
-        let text = read_ended_text(&mut part)?;
+        let text = read_symbol(&mut part)?;
         rows.symbols.need(text)?;
     }
     record.symbols = Span::between(first, rows.symbols.rows.len());
@@ -272,26 +272,42 @@ fn read_value(part: &mut Part, length: u32) -> Result<Text, Refusal> {
     Ok(Text { place, length })
 }
 
-/// "a 2-byte length n, then n + 1 bytes whose only zero is the last"
-fn read_ended_text(part: &mut Part) -> Result<Text, Refusal> {
+/// A length of 2 bytes and so many bytes.
+fn read_counted(part: &mut Part) -> Result<Text, Refusal> {
     let length = part.two()?;
-    let place = part.place as u32;
-    let bytes = part.bytes(length as usize + 1)?;
-    if bytes.iter().position(|b| *b == 0) != Some(length as usize) {
-        return Err(9);
-    }
-    Ok(Text { place, length })
+    read_value(part, length)
 }
 
-/// "strings (length 2, bytes without any zero)"
+/// "Pool strings may have zero bytes inside; the last byte must still be zero."
+fn read_ended_text(part: &mut Part) -> Result<Text, Refusal> {
+    let text = read_counted(part)?;
+    if part.one()? != 0 {
+        return Err(9);
+    }
+    Ok(text)
+}
+
+/// "Symbols .. keep their rule": "a 2-byte length n, then n + 1 bytes whose only zero is the last".
+fn read_symbol(part: &mut Part) -> Result<Text, Refusal> {
+    let text = read_ended_text(part)?;
+    has_no_zero(part, text)?;
+    Ok(text)
+}
+
+/// "local names and file names keep their rule": "strings (length 2, bytes without any zero)".
 fn read_text(part: &mut Part) -> Result<Text, Refusal> {
-    let length = part.two()?;
-    let place = part.place as u32;
-    let bytes = part.bytes(length as usize)?;
+    let text = read_counted(part)?;
+    has_no_zero(part, text)?;
+    Ok(text)
+}
+
+/// "9: a string breaks its zero rule"
+fn has_no_zero(part: &Part, text: Text) -> Result<(), Refusal> {
+    let bytes = &part.file[text.place as usize..][..text.length as usize];
     if bytes.contains(&0) {
         return Err(9);
     }
-    Ok(Text { place, length })
+    Ok(())
 }
 
 /// Reads an END section, which has no content, and answers its size.

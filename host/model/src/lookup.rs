@@ -94,8 +94,8 @@ pub fn pool(file: &[u8], tables: &Tables, number: u32, index: u32) -> Result<Con
         }
         3 => {
             let bytes: [u8; 8] = bytes.try_into().map_err(|_| 22u32)?;
-            // "3 int64 low byte first"
-            Ok(Constant::Int(i64::from_le_bytes(bytes)))
+            // "Eight-byte pool integers are .. read high byte first."
+            Ok(Constant::Int(i64::from_be_bytes(bytes)))
         }
         5 => {
             let bytes: [u8; 8] = bytes.try_into().map_err(|_| 22u32)?;

@@ -220,7 +220,7 @@ impl Words for Entry {
 }
 
 /// The rows read for one table, and how many are lent.
-#[derive(Debug, Clone)]
+#[derive(Debug, Clone, PartialEq, Eq)]
 pub struct Table<Row> {
     pub rows: Vec<Row>,
     lent: usize,
@@ -252,7 +252,7 @@ impl<Row: Words> Table<Row> {
 }
 
 /// The rows of the nine tables.
-#[derive(Debug, Clone)]
+#[derive(Debug, Clone, PartialEq, Eq)]
 pub struct Rows {
     pub records: Table<Record>,
     pub handlers: Table<Handler>,

@@ -31,11 +31,51 @@ fn exact(file: &[u8]) -> Sizes {
     Sizes::of_rows(read(file, [usize::MAX; 9]).rows.used())
 }
 
+/// The files of one program of the corpus, without and with debug sections.
+fn program(name: &str) -> impl Iterator<Item = Vec<u8>> {
+    let names = [name.to_owned(), format!("{name}-g")];
+    let files = corpus().into_iter();
+    files.filter_map(move |(name, file)| names.contains(&name).then_some(file))
+}
+
+/// The constants of a file's first record.
+fn constants(file: &[u8]) -> Vec<Constant> {
+    let tables = load(file, &exact(file)).tables;
+    (0..)
+        .map_while(|index| pool(file, &tables, 0, index).ok())
+        .collect()
+}
+
 #[test]
-fn all_but_four_pass() {
+fn whole_numbers_are_those_of_the_program() {
+    for file in program("13_constants_big") {
+        let numbers = [
+            123_456_789_012,
+            -123_456_789_012,
+            9_223_372_036_854_775_807,
+            -9_223_372_036_854_775_807,
+            0xdead_beef_cafe,
+        ];
+        assert_eq!(constants(&file), numbers.map(Constant::Int));
+    }
+}
+
+#[test]
+fn texts_with_zeros_are_those_of_the_program() {
+    for file in program("25_zero_in_string") {
+        let texts = constants(&file).into_iter().map(|constant| match constant {
+            Constant::Text(text) => text.of(&file).to_vec(),
+            other => panic!("{other:?} is no text"),
+        });
+        let said: [&[u8]; 2] = [b"a\0b", b"\0"];
+        assert_eq!(texts.collect::<Vec<_>>(), said);
+    }
+}
+
+#[test]
+fn all_but_two_pass() {
     for (name, file) in corpus() {
         let expected = match name.as_str() {
-            "25_zero_in_string" | "25_zero_in_string-g" => 9,
             "27_wide_operands" | "27_wide_operands-g" => 16,
             _ => 0,
         };

@@ -398,6 +398,106 @@ fn marks_and_sizes() {
     assert_eq!(with(&[bare, b"END\0\0\0\0\x04"]), 5);
 }
 
+/// A file with one record of these constants and symbols, and sections behind it.
+fn with_texts(pool: &[&[u8]], symbols: &[&[u8]], sections: &[Vec<u8>]) -> Vec<u8> {
+    let record = record([1, 1, 0], &[118], &[], pool, symbols);
+    file(&[&[irep(&[record])][..], sections].concat())
+}
+
+#[test]
+fn pool_strings_may_have_zeros_inside() {
+    for (text, last, number) in [
+        (&b""[..], 0, 0),
+        (b"\0", 0, 0),
+        (b"\0\0\0", 0, 0),
+        (b"a\0b", 0, 0),
+        (b"a\0", 0, 0),
+        (b"\0b", 0, 0),
+        (b"", 1, 9),
+        (b"ab", b'c', 9),
+        (b"\0", 255, 9),
+        (b"a\0b", 1, 9),
+        (b"a\0", 128, 9),
+    ] {
+        for kind in [0, 2] {
+            let entry = [&[kind][..], &be2(text.len()), text, &[last]].concat();
+            let file = with_texts(&[&entry], &[], &[]);
+            let loaded = load(&file, &enough());
+            assert_eq!(loaded.refusal, number, "{kind} {text:?}");
+            assert_eq!(examined(&file), number, "{kind} {text:?}");
+            if number == 0 {
+                let Ok(Constant::Text(found)) = pool(&file, &loaded.tables, 0, 0) else {
+                    panic!("no text");
+                };
+                assert_eq!(found.of(&file), text);
+            }
+        }
+    }
+}
+
+#[test]
+fn other_texts_have_no_zero_inside() {
+    for (text, number) in [
+        (&b"a"[..], 0),
+        (b"ab", 0),
+        (b"\0", 9),
+        (b"a\0b", 9),
+        (b"a\0", 9),
+        (b"\0b", 9),
+    ] {
+        let counted = [&be2(text.len())[..], text].concat();
+        let names = section(b"LVAR", &[&be4(1)[..], &counted].concat());
+        let debug = section(b"DBG\0", &[&be2(1)[..], &counted].concat());
+        for file in [
+            with_texts(&[], &[text], &[]),
+            with_texts(&[], &[], &[names]),
+            with_texts(&[], &[], &[debug]),
+        ] {
+            assert_eq!(refusal(&file), number, "{text:?}");
+            assert_eq!(examined(&file), number, "{text:?}");
+        }
+    }
+}
+
+#[test]
+fn what_follows_a_zero_inside_a_pool_string_is_read() {
+    let zero = &[0, 0, 1, 0, 0][..];
+    let other = section(b"END\x01", &[]);
+    for (pool, symbols, sections, number) in [
+        (&[zero, zero][..], &[][..], &[][..], 0),
+        (&[zero, &[4]], &[], &[], 10),
+        (&[zero, &[2, 0, 0, 1]], &[], &[], 9),
+        (&[zero], &[&b"\0"[..]], &[], 9),
+        (&[zero], &[], &[other], 5),
+    ] {
+        assert_eq!(refusal(&with_texts(pool, symbols, sections)), number);
+    }
+}
+
+#[test]
+fn eight_byte_integers_are_high_byte_first() {
+    for (bytes, number) in [
+        ([0, 0, 0, 0, 0, 0, 0, 1], 1),
+        ([1, 0, 0, 0, 0, 0, 0, 0], 1 << 56),
+        ([255; 8], -1),
+        ([255, 255, 255, 255, 255, 255, 255, 0], -256),
+        ([128, 0, 0, 0, 0, 0, 0, 0], i64::MIN),
+        ([127, 255, 255, 255, 255, 255, 255, 255], i64::MAX),
+        ([1, 2, 3, 4, 5, 6, 7, 8], 0x0102_0304_0506_0708),
+    ] {
+        let integer = [&[3][..], &bytes].concat();
+        let float = [&[5][..], &bytes].concat();
+        let file = with_texts(&[&integer, &float], &[], &[]);
+        let tables = load(&file, &enough()).tables;
+        assert_eq!(pool(&file, &tables, 0, 0), Ok(Constant::Int(number)));
+        let Ok(Constant::Float(found)) = pool(&file, &tables, 0, 1) else {
+            panic!("no float");
+        };
+        // Floats are low byte first.
+        assert_eq!(found.to_bits(), number.swap_bytes() as u64);
+    }
+}
+
 /// A record with a part of each kind, LVAR and DBG behind it.
 fn full() -> Vec<u8> {
     let first = record(
@@ -408,7 +508,7 @@ fn full() -> Vec<u8> {
             &[0, 0, 2, b'a', b'b', 0],
             &[1, 255, 255, 255, 254],
             &[2, 0, 0, 0],
-            &[3, 1, 0, 0, 0, 0, 0, 0, 0],
+            &[3, 0, 0, 0, 0, 0, 0, 0, 1],
             &[5, 0, 0, 0, 0, 0, 0, 240, 63],
             &[7, 2, 10, b'1', b'2'],
         ],
@@ -652,8 +752,11 @@ fn other_rows_of_a_record_are_needed_once_their_bytes_are_good() {
         (&[0, 1, 0, 0][..], 7, 7),
         (&[0, 1, 4], 10, 10),
         (&[0, 1, 0, 0, 1, b'a', b'b'], 9, 9),
-        (&[0, 1, 0, 0, 1, 0, 0], 9, 9),
+        (&[0, 1, 2, 0, 1, 0, b'b'], 9, 9),
+        (&[0, 1, 0, 0, 1, 0, 0], 7, 14),
+        (&[0, 1, 2, 0, 2, 0, 0, 0], 7, 14),
         (&[0, 1, 0, 0, 1, 0], 7, 7),
+        (&[0, 1, 2, 0, 2, 0, 0], 7, 7),
         (&[0, 1, 1, 0, 0, 0], 7, 7),
         (&[0, 1, 1, 0, 0, 0, 0], 7, 14),
         (&[0, 1, 7, 1, 0], 7, 7),

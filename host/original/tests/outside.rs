@@ -1,7 +1,8 @@
-//! What the original does where the papers leave it: refusals 1, 6, 13, 14, 27 and 28, and fetch above 118.
+//! What the original does where the papers leave it: refusals 1, 6, 13, 14, 27 and 28, two kinds of constants, and fetch above 118.
 
+use original::Error;
 use original::rite::insn::FETCH_TABLE;
-use original::rite::rite::{Rite, load};
+use original::rite::rite::{PoolValue, Rite, load};
 use std::panic::catch_unwind;
 
 /// One record of 20 bytes with so many locals and no code.
@@ -18,6 +19,13 @@ fn section(mark: &[u8; 4], content: &[u8]) -> Vec<u8> {
 
 fn irep(records: &[Vec<u8>]) -> Vec<u8> {
     section(b"IREP", &[vec![0; 4], records.concat()].concat())
+}
+
+/// One record with one constant and no code.
+fn with_constant(constant: &[u8]) -> Vec<u8> {
+    let size = 20 + constant.len() as u8;
+    let head = [0, 0, 0, size, 0, 1, 0, 0, 0, 0, 0, 0, 0, 0, 0, 0, 0, 1];
+    [&head[..], constant, &[0, 0]].concat()
 }
 
 /// An LVAR section with one string that one local has.
@@ -49,6 +57,29 @@ fn ident_and_size_are_not_looked_at() {
     other[..4].copy_from_slice(b"\x89PNG");
     other[8..12].copy_from_slice(&[255; 4]);
     assert_eq!(loaded(&other).irep.len(), 1);
+}
+
+#[test]
+fn eight_byte_integers_are_read_low_byte_first() {
+    let file = file(&[irep(&[with_constant(&[3, 1, 2, 3, 4, 5, 6, 7, 8])])]);
+    let PoolValue::Int64(number) = loaded(&file).irep[0].pool[0] else {
+        panic!("no whole number of eight bytes");
+    };
+    assert_eq!(number, 0x0807_0605_0403_0201);
+}
+
+#[test]
+fn a_zero_inside_a_pool_string_is_refused() {
+    for kind in [0, 2] {
+        let with_text = |text: [u8; 3]| {
+            let constant = [&[kind, 0, 3][..], &text, &[0]].concat();
+            file(&[irep(&[with_constant(&constant)])])
+        };
+        assert_eq!(loaded(&with_text(*b"abc")).irep[0].pool.len(), 1);
+        for text in [*b"a\0c", *b"\0bc", *b"ab\0", [0; 3]] {
+            assert_eq!(load(&with_text(text)).err(), Some(Error::InvalidFormat));
+        }
+    }
 }
 
 #[test]
