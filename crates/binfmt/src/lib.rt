@@ -1,8 +1,8 @@
-// Fields of two and four bytes.
+// Fields of two and four bytes, and the bytes of one of eight.
 ghost use mathlib.Core.Path.{_≡_};
 ghost use Prim.Native.Nat.{_+_, _-_, _≤_, _<_};
 ghost use lib.ListN.{length};
-ghost use Rattle.format.specs.Bytes.{byte, u16At, u32At, reads};
+ghost use Rattle.format.specs.Bytes.{byte, eightAt, u16At, u32At, reads};
 ghost use Rattle.binfmt.specs.Answers.{field16Of, field32Of};
 
 // A field of two bytes, or the refusal's number.
@@ -52,6 +52,23 @@ pub fn rest(head: &[u8], cur: usize) -> usize
     } else {
         0
     }
+}
+
+// The eight bytes at a place.
+pub fn eight(head: &[u8], cur: usize) -> [u8; 8]
+    requires { ⌜ cur + 8 ≤ length (now head) ⌝ }
+    ensures { λ r. ⌜ r ≡ eightAt (now (head .entry)) cur ⌝ }
+{
+    [
+        head[cur],
+        head[cur + 1],
+        head[cur + 2],
+        head[cur + 3],
+        head[cur + 4],
+        head[cur + 5],
+        head[cur + 6],
+        head[cur + 7],
+    ]
 }
 
 // The byte at a place.

@@ -5,10 +5,9 @@ use native.Mathlib.Omega.{arith}
 use mathlib.Core.Path.{_≡_, refl, ap, _∙_, sym}
 use mathlib.Core.Logic.{_↔_, _⊎_, inl, inr}
 use mathlib.Core.Bool.{Bool, true, false, not, cond}
-use mathlib.Core.List.{List}
 use lib.Dec.{T}
 use lib.ListN.{length}
-use Rattle.format.specs.Bytes.{Answer, ok, refused, bind, onAnswer, refuse, first, Step, has, reads}
+use Rattle.format.specs.Bytes.{Answer, ok, refused, bind, onAnswer, refuse, first, Step}
 use Rattle.format.specs.Reading.{more, inTurn}
 
 -- an answer is a value or a refusal, not both
@@ -64,17 +63,6 @@ module _ {A : Type 0} (P : A → Type 0) (R : ℕ → Type 0) where
   pub chained : {B : Type 0} (Q : B → Type 0) (x : Answer B) (k : B → Answer A) → Holds Q R x → ((b : B) → Q b → Holds P R (k b)) → Holds P R (bind x k)
   chained Q (ok b) k q h = h b q
   chained Q (refused e) k q h = q
-
--- a read whose value goes through a function is the read of the function's value
-abbrev pub mapped : {A B : Type 0} → (A → B) → Answer A → Answer B
-mapped g x = bind x (λ a. ok (g a))
-
-pub reads-mapped : {A B : Type 0} (g : A → B) (f : List ℕ) (at n : ℕ) (v : A) → mapped g (reads f at n v) ≡ reads f at n (g v)
-reads-mapped g f at n v = go (has f at n)
-  where
-    go : (b : Bool) → mapped g (cond b (ok v) (refused 7)) ≡ cond b (ok (g v)) (refused 7)
-    go true = refl
-    go false = refl
 
 -- the first refusal of two, and the refusal of a test
 pub first-zero : (a b : ℕ) → first a b ≡ 0 → (a ≡ 0) × (b ≡ 0)

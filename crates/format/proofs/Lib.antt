@@ -1,3 +1,4 @@
+pub mod Bytes
 pub mod Answers
 pub mod Texts
 pub mod File

@@ -58,12 +58,16 @@ unfoldable pub noZero : List ℕ → ℕ → ℕ → Bool
 noZero f zero at = true
 noZero f (suc n) at = cond (eqb (byte f at) 0) false (noZero f n (at + 1))
 
--- the bytes of a field of two, and of four
+-- the bytes of a field of two, of four and of eight
 abbrev pub twoAt : List ℕ → ℕ → List ℕ
 twoAt f at = byte f at ∷ byte f (at + 1) ∷ []
 
 abbrev pub fourAt : List ℕ → ℕ → List ℕ
 fourAt f at = byte f at ∷ byte f (at + 1) ∷ byte f (at + 2) ∷ byte f (at + 3) ∷ []
+
+abbrev pub eightAt : List ℕ → ℕ → List ℕ
+eightAt f at =
+    byte f at ∷ byte f (at + 1) ∷ byte f (at + 2) ∷ byte f (at + 3) ∷ byte f (at + 4) ∷ byte f (at + 5) ∷ byte f (at + 6) ∷ byte f (at + 7) ∷ []
 
 -- the two, and the four, bytes at a place are these
 abbrev pub twoAre : List ℕ → ℕ → List ℕ → Bool

@@ -2,16 +2,17 @@
 -- Assumes nothing.
 use Prim.Native.Nat.{ℕ, _+_, _-_, _<_}
 use native.Mathlib.Omega.{arith}
-use mathlib.Core.Path.{_≡_, refl, ap}
+use mathlib.Core.Path.{_≡_, refl, ap, _∙_}
 use mathlib.Core.Logic.{_↔_, _⊎_, ⊎-elim, inl, inr}
 use mathlib.Core.Bool.{Bool, true, false, cond}
 use mathlib.Core.List.{List, [], _∷_}
 use lib.Dec.{eqb}
 use lib.ListN.{length}
 use borrow.Author.Tests.{leb-true, le-leb, eqb-true, eqb-false, eq-eqb, ne-eqb}
-use Rattle.format.specs.Bytes.{Answer, ok, refused, bind, Step, has, byte, noZero, twoAt, u16At, u64At, le64At, signed64, int64At}
+use Rattle.format.specs.Bytes.{Answer, ok, refused, bind, Step, has, byte, noZero, twoAt, eightAt, u16At, u64At, le64At, signed64, int64At}
 use Rattle.format.specs.Rows.{TextRow}
 use Rattle.format.specs.Irep.{poolText, symbolText, bigInteger, poolValue, poolEntry}
+use Rattle.format.proofs.Bytes.{eight-u64}
 use Rattle.format.proofs.Answers.{ok-refused, ok-same, either, Refuses, weaker, tested, chained}
 use Rattle.format.proofs.Texts.{NoZero, no-zero, no-zero-is}
 
@@ -21,14 +22,10 @@ turned f at = byte f (at + 7) ∷ byte f (at + 6) ∷ byte f (at + 5) ∷ byte f
 
 -- "Eight-byte pool integers are now read high byte first": what was read low byte first is what stands there from the last byte to the first.
 pub int64-turned : (f : List ℕ) (at : ℕ) → int64At f at ≡ signed64 (le64At (turned f at) 0)
-int64-turned f at = ap signed64 u64-turned
+int64-turned f at = ap signed64 (eight-u64 f at ∙ turns)
   where
-    u64-turned : u64At f at ≡ le64At (turned f at) 0
-    u64-turned =
-        let a : at + 4 + 1 ≡ at + 5 = omega arith in
-        let b : at + 4 + 2 ≡ at + 6 = omega arith in
-        let c : at + 4 + 3 ≡ at + 7 = omega arith in
-        rw (a, b, c) (omega arith)
+    turns : u64At (eightAt f at) 0 ≡ le64At (turned f at) 0
+    turns = omega arith
 
 -- n + 1 bytes stand behind the length n at a place, and the last of them is not zero
 pub record NotEnded (f : List ℕ) (at : ℕ) : Type 0 where

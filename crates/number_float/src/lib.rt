@@ -1,15 +1,11 @@
 // Floats of eight bytes, low byte first.
+use binfmt::eight;
+use binfmt::rest;
 ghost use mathlib.Core.Path.{_≡_};
 ghost use Prim.Native.Nat.{_<_};
 ghost use lib.Ieee.{binary64, ofBits};
 ghost use Rattle.format.specs.Bytes.{le64At, float64At, reads};
-ghost use Rattle.number_float.specs.Answers.{field64Of, float64Of};
-
-// A field of eight bytes, low byte first, or the refusal's number.
-enum Field64 {
-    Value(u64),
-    Refused(u8),
-}
+ghost use Rattle.number_float.specs.Answers.{float64Of};
 
 // A float of eight bytes, or the refusal's number.
 pub enum Float64 {
@@ -48,30 +44,13 @@ fn to_f64(n: u64) -> f64
     }
 }
 
-fn le64_at(head: &[u8], cur: usize) -> Field64
-    ensures { λ r. ⌜ field64Of r ≡ reads (now (head .entry)) cur 8 (le64At (now (head .entry)) cur) ⌝ }
-{
-    if binfmt::rest(head, cur) < 8 {
-        return Field64::Refused(7);
-    }
-    Field64::Value(le64_to_u64([
-        head[cur],
-        head[cur + 1],
-        head[cur + 2],
-        head[cur + 3],
-        head[cur + 4],
-        head[cur + 5],
-        head[cur + 6],
-        head[cur + 7],
-    ]))
-}
-
 // Eight bytes as a float, low byte first.
 pub fn f64_at(head: &[u8], cur: usize) -> Float64
     ensures { λ r. ⌜ float64Of r ≡ reads (now (head .entry)) cur 8 (float64At (now (head .entry)) cur) ⌝ }
 {
-    match le64_at(head, cur) {
-        Field64::Refused(e) => Float64::Refused(e),
-        Field64::Value(n) => Float64::Value(to_f64(n)),
+    if rest(head, cur) < 8 {
+        return Float64::Refused(7);
     }
+    let n = le64_to_u64(eight(head, cur));
+    Float64::Value(to_f64(n))
 }

@@ -10,7 +10,6 @@ use boundary_steps::BlotheathLine;
 use libc::STDIN_FILENO;
 use libc::STDOUT_FILENO;
 use line::Pos;
-use number::Int64;
 use number_float::Float64;
 use stored::State;
 use stored::ahead;
@@ -98,11 +97,13 @@ fn looked_agrees(n: [u32; 6], all: &[u8], at: usize) -> bool {
     word(all, at) == n[0] && five_agree(n[1], n[2], n[3], n[4], n[5], all, ahead(at, 4))
 }
 
+// The stored number is two words, the high one first, in two's complement.
 fn same_int(n: i64, all: &[u8], at: usize) -> bool {
-    match number::i64_at(all, at) {
-        Int64::Value(m) => m == n,
-        Int64::Refused(r) => false,
+    let stored = (word(all, at) as u64) * 0x1_0000_0000 + (word(all, ahead(at, 4)) as u64);
+    if stored < 0x8000_0000_0000_0000 {
+        return n == stored as i64;
     }
+    n == -1 - ((0xffff_ffff_ffff_ffff - stored) as i64)
 }
 
 // Equal floats, zeros of one sign, or two NaNs.
