@@ -31,8 +31,12 @@ pub fn files() -> Vec<(&'static str, Vec<u8>)> {
             shared_code(&[JMP, JMPNOT]),
         ),
         (
-            "1,024 records that share a text",
-            shared_constants(&long_text()),
+            "1,024 records that share a constant's text",
+            shared_constants(&long_constant()),
+        ),
+        (
+            "1,024 records that share a symbol",
+            shared_constants(&long_symbol()),
         ),
         (
             "1,024 records that share 200 constants",
@@ -174,15 +178,25 @@ fn constants(number: usize) -> Vec<u8> {
     pool
 }
 
-/// A pool of one text, and no symbols.
+/// A long text with its length before it and its zero behind it.
 fn long_text() -> Vec<u8> {
-    let mut pool = vec![0, 1, 0, 0xb0, 0];
-    pool.extend([b'x'; 0xb000]);
-    pool.extend([0, 0, 0]);
-    pool
+    let mut text = vec![0xb0, 0];
+    text.extend([b'x'; 0xb000]);
+    text.push(0);
+    text
 }
 
-/// Records whose code ends where one pool begins.
+/// A pool of one text, and no symbols.
+fn long_constant() -> Vec<u8> {
+    [&[0, 1, 0][..], &long_text(), &[0, 0]].concat()
+}
+
+/// No constants, and one symbol.
+fn long_symbol() -> Vec<u8> {
+    [&[0, 0, 0, 1][..], &long_text()].concat()
+}
+
+/// Records whose code ends where one pool begins, with the symbols behind it.
 fn shared_constants(pool: &[u8]) -> Vec<u8> {
     let mut content = Vec::new();
     for number in 1..=RECORDS {

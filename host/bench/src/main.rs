@@ -10,6 +10,7 @@ mod parts;
 mod timing;
 
 use blotheath::tables::Words;
+use original::rite::rite;
 use std::path::{Path, PathBuf};
 use std::time::Duration;
 use std::{env, fs};
@@ -27,7 +28,7 @@ fn main() {
     hostile_files();
 }
 
-/// The files of the corpus that the original loads, or the sample where there is no corpus.
+/// The files of the corpus that pass and that the original loads too, or the sample where there is no corpus.
 fn real() -> Vec<Vec<u8>> {
     let here = Path::new(env!("CARGO_MANIFEST_DIR"));
     let folder = match env::var_os("BLOTHEATH_CORPUS") {
@@ -48,7 +49,7 @@ fn real() -> Vec<Vec<u8>> {
     paths.sort();
     let files = paths.iter().filter_map(|path| fs::read(path).ok());
     files
-        .filter(|file| blotheath::examine(file).is_ok())
+        .filter(|file| blotheath::examine(file).is_ok() && rite::load(file).is_ok())
         .collect()
 }
 
@@ -57,7 +58,7 @@ fn real_files(rounds: usize) {
     let bytes: usize = files.iter().map(Vec::len).sum();
     println!("## Real files\n");
     println!(
-        "{} files that pass, {bytes} bytes, one behind the other; {rounds} rounds.\n",
+        "{} files that pass and that the original loads, {bytes} bytes, one behind the other; {rounds} rounds.\n",
         files.len()
     );
     table(&files, rounds);
@@ -97,7 +98,7 @@ fn table(files: &[Vec<u8>], rounds: usize) {
     let mut frames = vec![0; 2 * blotheath::tables::RECORD_LIMIT];
     let mut load_original = || {
         for file in files {
-            timing::keep(original::rite::rite::load(file).is_ok());
+            timing::keep(rite::load(file).is_ok());
         }
     };
     let mut load_new = || {
@@ -170,7 +171,7 @@ fn hostile_files() {
             Ok(_) => "passes".to_owned(),
             Err(refusal) => refusal.number().to_string(),
         };
-        let mut load_original = || timing::keep(original::rite::rite::load(&file).is_ok());
+        let mut load_original = || timing::keep(rite::load(&file).is_ok());
         let original = timing::once(&mut load_original);
         let shown = |time: Duration| format!("{:.1} ms", time.as_secs_f64() * 1e3);
         println!(

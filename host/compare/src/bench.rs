@@ -20,7 +20,8 @@ pub fn bench(args: &Args) -> Result<(), Stop> {
     println!("the original is built {build} overflow checks");
     real_files(rounds)?;
     for (name, file) in [
-        ("one long text a record", hostile(&one_text)),
+        ("one long constant a record", hostile(&one_constant)),
+        ("one long symbol a record", hostile(&one_symbol)),
         ("many constants a record", hostile(&many_constants)),
     ] {
         hostile_file(name, &file)?;
@@ -28,16 +29,16 @@ pub fn bench(args: &Args) -> Result<(), Stop> {
     Ok(())
 }
 
-/// The files of the corpus that load, in rounds of the original and the port in turn.
+/// The files of the corpus that the original loads too, in rounds of the original and the port in turn.
 fn real_files(rounds: u64) -> Result<(), Stop> {
     let mut files = corpus();
-    files.retain(|(_, file)| model::read(file, [usize::MAX; 9]).end.is_ok());
+    files.retain(|(_, file)| rite::load(file).is_ok());
     if files.is_empty() {
         return Err(Stop::Usage("there is no corpus".into()));
     }
     let bytes: usize = files.iter().map(|(_, file)| file.len()).sum();
     println!(
-        "{} real files that load, {bytes} bytes; {rounds} rounds",
+        "{} real files that both load, {bytes} bytes; {rounds} rounds",
         files.len()
     );
     let mut lent: Vec<Tables> = files.iter().map(|(_, file)| fitting(file)).collect();
@@ -146,7 +147,7 @@ fn micros(time: Duration) -> f64 {
     time.as_secs_f64() * 1e6
 }
 
-/// A file of 65,536 bytes: 1,024 records that overlap, each with the same constants and 65,535 children, then LVAR and DBG.
+/// A file of 65,536 bytes: 1,024 records that overlap, each with the same constants or symbol and 65,535 children, then LVAR and DBG.
 fn hostile(constants: &dyn Fn(usize) -> Vec<u8>) -> Vec<u8> {
     let mut names = Vec::new();
     names.extend(1u32.to_be_bytes());
@@ -183,13 +184,23 @@ fn hostile(constants: &dyn Fn(usize) -> Vec<u8>) -> Vec<u8> {
     file
 }
 
-/// A pool of one text that fills so many bytes.
-fn one_text(bytes: usize) -> Vec<u8> {
-    let mut pool = vec![0, 1, 0];
-    pool.extend((bytes as u16 - 6).to_be_bytes());
+/// What comes before a text, and the text with its length and its zero, so many bytes in all.
+fn one_text(before: &[u8], bytes: usize) -> Vec<u8> {
+    let mut pool = before.to_vec();
+    pool.extend(((bytes - before.len() - 3) as u16).to_be_bytes());
     pool.resize(bytes - 1, b'a');
     pool.push(0);
     pool
+}
+
+/// A pool of one text that fills so many bytes.
+fn one_constant(bytes: usize) -> Vec<u8> {
+    one_text(&[0, 1, 0], bytes)
+}
+
+/// No pool, and one symbol that fills so many bytes; those behind it are not read.
+fn one_symbol(bytes: usize) -> Vec<u8> {
+    one_text(&[0, 0, 0, 1], bytes)
 }
 
 /// A pool of as many constants as fit into so many bytes, in the shortest form, and one that fills the rest.
