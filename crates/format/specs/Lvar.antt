@@ -6,7 +6,7 @@ use mathlib.Core.List.{List, []}
 use lib.Dec.{leb, ltb, eqb}
 use lib.ListN.{length}
 use Rattle.format.specs.Bytes.{Answer, ok, refused, bind, Step, step, has, noZero, u16At, u32At}
-use Rattle.format.specs.Reading.{Read, Part, part, andThen, inTurn}
+use Rattle.format.specs.Reading.{Part, part, andThen, inTurn}
 use Rattle.format.specs.Rows.{TextRow, textRow, NameRow, nameRow}
 use Rattle.format.specs.Irep.{Rec}
 use Rattle.format.specs.Walk.{walk}

@@ -9,7 +9,6 @@ use Rattle.rows.specs.declared.Rows.{Rows}
 use Rattle.rows.specs.declared.Rows.the-variants.{Next, Refused}
 use mathlib.Core.Bool.{true, false}
 use lib.ListN.{getD}
-use lib.Dec.{eqb}
 use borrow.Author.Tests.{eq-eqb, ne-eqb}
 use Rattle.format.specs.Bytes.{Answer, ok, refused, Step, step, noZero}
 use Rattle.format.specs.Rows.{TextRow, textRow}

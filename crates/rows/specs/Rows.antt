@@ -5,7 +5,7 @@ use mathlib.Core.Bool.{Bool, _||_, cond}
 use mathlib.Core.List.{List}
 use lib.Dec.{eqb, ltb}
 use Rattle.format.specs.Bytes.{Answer, ok, refused, Step, has, byte, u16At}
-use Rattle.format.specs.Rows.{TextRow, textRow, nameRow, handlerWords, poolWords, textWords, nameWords}
+use Rattle.format.specs.Rows.{TextRow, textRow, handlerWords, poolWords, textWords, nameWords}
 use Rattle.format.specs.Irep.{handler, bytes, poolText, symbolText, bigInteger, poolValue}
 use Rattle.format.specs.Lvar.{plainText, nameEntry}
 use Rattle.rows.specs.declared.Rows.the-variants as rows

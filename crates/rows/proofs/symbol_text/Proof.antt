@@ -10,7 +10,7 @@ use Rattle.format.specs.Bytes.{ok, step}
 use Rattle.format.specs.Rows.{textRow}
 use Rattle.format.specs.Irep.{poolText, symbolText}
 use Rattle.format.proofs.Texts.{string-at}
-use Rattle.rows.specs.Rows.{poolTextOf, symbolTextOf}
+use Rattle.rows.specs.Rows.{symbolTextOf}
 use Rattle.rows.proofs.Laws.{string-read}
 use Rattle.rows.proofs.pool_text.Reads as pool-text-reads
 use Rattle.rows.proofs.no_zero.Reads as no-zero-reads
