@@ -247,6 +247,30 @@ fn texts_that_differ_by_a_zero_look_different() {
     }
 }
 
+/// A zero behind what `steps --json` has of a text is counted there.
+#[test]
+fn zeros_behind_a_cut_are_counted() {
+    let folder = Folder::new("behind");
+    let plain = b"rod".repeat(100);
+    let mut zeroed = plain.clone();
+    zeroed[280] = 0;
+    let texts = [plain, zeroed];
+    let constants = texts.each_ref().map(|text| build::text(text));
+    let path = folder.file("behind.mrb", &of_constants(&constants));
+    let [whole, cut] = read_back(&path);
+    assert!(
+        whole
+            .iter()
+            .map(bytes_of)
+            .eq(texts.iter().map(|text| hex(text)))
+    );
+    for (constant, zeros) in cut.iter().zip([0.0, 1.0]) {
+        assert_eq!(constant.get("length").number(), 300.0);
+        assert_eq!(constant.get("zeros").number(), zeros);
+    }
+    assert_eq!(bytes_of(&cut[0]), bytes_of(&cut[1]));
+}
+
 #[test]
 fn a_zero_byte_is_seen_wherever_it_stands() {
     let folder = Folder::new("seen");

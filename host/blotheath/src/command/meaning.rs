@@ -244,8 +244,17 @@ fn write_constant(
     match constant {
         Constant::Text(text) => {
             json.key("kind")?.string(text::kind(constant))?;
-            short_text(json, text.bytes, most)
+            constant_text(json, text.bytes, most)
         }
         constant => constant_members(json, constant, bytes),
     }
+}
+
+/// A constant's text; one that is cut tells its length and how many of its bytes are zero.
+fn constant_text(json: &mut Json, bytes: &[u8], most: usize) -> io::Result<()> {
+    if bytes.len() > most {
+        json.key("length")?.number(bytes.len() as i64)?;
+        json.key("zeros")?.number(text::zeros(bytes) as i64)?;
+    }
+    short_text(json, bytes, most)
 }

@@ -84,10 +84,15 @@ pub fn quoted(bytes: &[u8], most: usize) -> String {
     }
 }
 
+/// How many bytes of a text are zero.
+pub fn zeros(bytes: &[u8]) -> usize {
+    bytes.iter().filter(|byte| **byte == 0).count()
+}
+
 /// How many bytes a text has, and how many of them are zero.
 fn length(bytes: &[u8]) -> String {
     let told = format!("{} bytes", bytes.len());
-    match bytes.iter().filter(|byte| **byte == 0).count() {
+    match zeros(bytes) {
         0 => told,
         zeros => format!("{told}, {zeros} of them zero"),
     }
