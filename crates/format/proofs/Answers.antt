@@ -10,6 +10,10 @@ use lib.ListN.{length}
 use Rattle.format.specs.Bytes.{Answer, ok, refused, bind, onAnswer, refuse, first, Step}
 use Rattle.format.specs.Reading.{more, inTurn}
 
+-- a test has one outcome
+pub false-true : false ≡ true → ⊥
+false-true e = let z : _≡_ {A = ℕ} 0 1 = cc in omega arith
+
 -- an answer is a value or a refusal, not both
 pub ok-refused : {A : Type 0} {a : A} {e : ℕ} → refused e ≡ ok a → ⊥
 ok-refused h = let z : _≡_ {A = ℕ} 0 1 = cc in omega arith
@@ -43,7 +47,11 @@ pub anything : {A : Type 0} (x : Answer A) → Answers (λ _. Unit {0}) x
 anything (ok a) = tt
 anything (refused e) = tt
 
--- less is said of the number
+-- less is said of the value, and of the number
+pub implied : {A : Type 0} (P Q : A → Type 0) (R : ℕ → Type 0) (x : Answer A) → Holds P R x → ((a : A) → P a → Q a) → Holds Q R x
+implied P Q R (ok a) h g = g a h
+implied P Q R (refused e) h g = h
+
 pub weaker : {A : Type 0} (P : A → Type 0) (R S : ℕ → Type 0) (x : Answer A) → Holds P R x → ((e : ℕ) → R e → S e) → Holds P S x
 weaker P R S (ok a) h g = h
 weaker P R S (refused e) h g = g e h

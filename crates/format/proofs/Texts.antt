@@ -1,25 +1,19 @@
--- What the tests of a text's zeros say of its bytes, one by one.
+-- What the test for zeros says of the bytes, one by one.
 -- Assumes nothing.
-use Prim.Native.Nat.{ℕ, zero, suc, _+_, _-_, _<_}
+use Prim.Native.Nat.{ℕ, zero, suc, _+_, _<_}
 use native.Mathlib.Nat.{add-zero}
 use native.Mathlib.Omega.{arith}
 use mathlib.Core.Path.{_≡_, refl}
 use mathlib.Core.Bool.{Bool, true, false, cond}
 use mathlib.Core.List.{List}
 use lib.Dec.{eqb}
-use lib.ListN.{length}
-use borrow.Author.Tests.{leb-true, eqb-true, eqb-false, ne-eqb}
-use Rattle.format.specs.Bytes.{has, byte, noZero, u16At}
-use Rattle.format.specs.Rows.{TextRow}
-use Rattle.format.specs.Irep.{poolText}
-use Rattle.format.proofs.Answers.{Answers, tested}
+use borrow.Author.Tests.{eqb-false, ne-eqb}
+use Rattle.format.specs.Bytes.{byte, noZero}
+use Rattle.format.proofs.Answers.{false-true}
 
 -- none of the n bytes from `at` on is zero
 abbrev pub NoZero : List ℕ → ℕ → ℕ → Type 0
 NoZero f n at = (i : ℕ) → i < n → ¬ (byte f (at + i) ≡ 0)
-
-false-true : false ≡ true → ⊥
-false-true e = let z : _≡_ {A = ℕ} 0 1 = cc in omega arith
 
 module _ (f : List ℕ) where
   pub no-zero : (n at : ℕ) → noZero f n at ≡ true → NoZero f n at
@@ -40,17 +34,3 @@ module _ (f : List ℕ) where
       let z : ¬ (byte f at ≡ 0) = rw add-zero at (h 0 (omega arith)) in
       rw (ne-eqb (byte f at) 0 z)
       (no-zero-is n (at + 1) (λ i g. let k : at + 1 + i ≡ at + suc i = omega arith in rw k (h (suc i) (omega arith))))
-
--- a string that is read at a place of f, which stands at base in its file: where its bytes lie, and the zero behind them
-pub record StringAt (f : List ℕ) (base at : ℕ) (t : TextRow) : Type 0 where
-  pub place : t .place ≡ base + (at + 2)
-  pub inside : at + 2 + t .length < length f
-  pub ended : byte f (at + 2 + t .length) ≡ 0
-
-pub string-at : (f : List ℕ) (base at : ℕ) → Answers (λ s. StringAt f base at (s .it)) (poolText f base at)
-unfolding poolText
-string-at f base at =
-    let n = u16At f at in
-    tested _ _ (has f at 2) _ 7 tt (λ _. tested _ _ (has f (at + 2) (n + 1)) _ 7 tt (λ b. tested _ _ (eqb (byte f (at + 2 + n)) 0) _ 9 tt (λ e.
-    let q = leb-true (n + 1) (length f - (at + 2)) b in
-    record { place = refl; inside = omega arith; ended = eqb-true (byte f (at + 2 + n)) 0 e })))

@@ -3,7 +3,7 @@
 use Prim.Native.Nat.{ℕ, _+_, _/_, _≤_, _<_}
 use native.Mathlib.Omega.{arith}
 use mathlib.Core.Path.{_≡_, refl, ap, _∙_}
-use mathlib.Core.Logic.{_⊎_, ⊎-elim, inl, inr}
+use mathlib.Core.Logic.{_⊎_, inl, inr}
 use mathlib.Core.Bool.{Bool, true, false, _&&_, cond}
 use mathlib.Core.List.{List, []}
 use mathlib.Core.Option.{none, some}
@@ -20,11 +20,12 @@ use Rattle.format.specs.Load.{Nine, Words, recordsOf, stringsOf, namesOf, fileN
 use Rattle.format.specs.Line.{lineAt, rowsFrom, lineRowAt}
 use Rattle.format.specs.Lookup.{word, fileRowAt, recordRowAt, hasRow, recordIn, bytesIn, textIn, instructions, handler, Constant, text, big, int}
 use Rattle.format.specs.Lookup.{float, constantAt, constantOf, pool, symbol, nameOf, name, DebugFile, debugFileOf, debugFile, line}
+use Rattle.format.proofs.Pool.{IsString}
 use Rattle.format.proofs.Places.{rows-length, fileRows-length}
 use Rattle.layout.proofs.Own.{Own, OwnFile, Owns, owns, table-row}
 use Rattle.layout.proofs.Ends.{Each}
 use Rattle.layout.proofs.Inside.{TextInside, StringInside, SymbolInside, PlainInside, NameInside, FileInside, PoolInside, Inside, loading-inside, Held, loading-held}
-use Rattle.layout.proofs.Inside.{Known, string, static-string, int32, int64, float64, big-integer}
+use Rattle.layout.proofs.Inside.{Known, string, int32, int64, float64, big-integer}
 use Rattle.layout.proofs.Back.{table-zero, has-row, row-in, row-past, rows-in, record-back, text-back, file-back, handler-back, pool-back, name-back}
 use Rattle.layout.proofs.Back.{lines-back}
 
@@ -68,7 +69,7 @@ inner P ls x i j d h = go (leb (length ls) i) refl
 
 -- the constant that a pool entry of the file is, by its kind
 module _ (f : List ℕ) (q : PoolRow) (inside : q .place + q .length ≤ length f) where
-  constant-string : (q .kind ≡ 0) ⊎ (q .kind ≡ 2) → constantOf f q ≡ ok (text (textRow (q .place) (q .length)))
+  constant-string : IsString (q .kind) → constantOf f q ≡ ok (text (textRow (q .place) (q .length)))
   unfolding constantOf constantAt bytesIn
   constant-string (inl k) = rw (le-leb _ _ inside, k)
   constant-string (inr k) = rw (le-leb _ _ inside, k)
@@ -90,30 +91,32 @@ module _ (f : List ℕ) (q : PoolRow) (inside : q .place + q .length ≤ length 
   constant-big k = rw (le-leb _ _ inside, k)
 
   constant-ok : Known f q → (x : Constant) × (constantOf f q ≡ ok x)
-  constant-ok (string k _) = (text (textRow (q .place) (q .length)), constant-string (inl k))
-  constant-ok (static-string k _) = (text (textRow (q .place) (q .length)), constant-string (inr k))
+  constant-ok (string k _) = (text (textRow (q .place) (q .length)), constant-string k)
   constant-ok (int32 k n) = (int (int32At f (q .place)), constant-int32 k n)
   constant-ok (int64 k n) = (int (int64At f (q .place)), constant-int64 k n)
   constant-ok (float64 k n) = (float (float64At f (q .place)), constant-float64 k n)
   constant-ok (big-integer k) = (big (textRow (q .place) (q .length)), constant-big k)
 
--- what a known kind says of the entry
+-- what a known kind says of the entry: it is not two kinds at once
 module _ (f : List ℕ) (q : PoolRow) where
+  no-string : (n : ℕ) → q .kind ≡ n → 0 < n → ¬ (n ≡ 2) → ¬ IsString (q .kind)
+  no-string n k h g (inl e) = omega arith
+  no-string n k h g (inr e) = omega (arith, g)
+
   known-lengths : Known f q → (q .kind ≡ 1 → q .length ≡ 4) × (q .kind ≡ 3 → q .length ≡ 8) × (q .kind ≡ 5 → q .length ≡ 8)
-  known-lengths (string k _) = (λ e. absurd (omega arith), λ e. absurd (omega arith), λ e. absurd (omega arith))
-  known-lengths (static-string k _) = (λ e. absurd (omega arith), λ e. absurd (omega arith), λ e. absurd (omega arith))
+  known-lengths (string (inl k) _) = (λ e. absurd (omega arith), λ e. absurd (omega arith), λ e. absurd (omega arith))
+  known-lengths (string (inr k) _) = (λ e. absurd (omega arith), λ e. absurd (omega arith), λ e. absurd (omega arith))
   known-lengths (int32 k n) = (λ e. n, λ e. absurd (omega arith), λ e. absurd (omega arith))
   known-lengths (int64 k n) = (λ e. absurd (omega arith), λ e. n, λ e. n)
   known-lengths (float64 k n) = (λ e. absurd (omega arith), λ e. n, λ e. n)
   known-lengths (big-integer k) = (λ e. absurd (omega arith), λ e. absurd (omega arith), λ e. absurd (omega arith))
 
-  known-string : Known f q → (q .kind ≡ 0) ⊎ (q .kind ≡ 2) → StringInside f (textRow (q .place) (q .length))
-  known-string (string k x) e = x
-  known-string (static-string k x) e = x
-  known-string (int32 k n) e = ⊎-elim (λ z. absurd (omega arith)) (λ z. absurd (omega arith)) e
-  known-string (int64 k n) e = ⊎-elim (λ z. absurd (omega arith)) (λ z. absurd (omega arith)) e
-  known-string (float64 k n) e = ⊎-elim (λ z. absurd (omega arith)) (λ z. absurd (omega arith)) e
-  known-string (big-integer k) e = ⊎-elim (λ z. absurd (omega arith)) (λ z. absurd (omega arith)) e
+  known-string : Known f q → IsString (q .kind) → StringInside f (textRow (q .place) (q .length))
+  known-string (string _ x) e = x
+  known-string (int32 k n) e = absurd (no-string 1 k (omega arith) (λ z. omega arith) e)
+  known-string (int64 k n) e = absurd (no-string 3 k (omega arith) (λ z. omega arith) e)
+  known-string (float64 k n) e = absurd (no-string 5 k (omega arith) (λ z. omega arith) e)
+  known-string (big-integer k) e = absurd (no-string 7 k (omega arith) (λ z. omega arith) e)
 
 -- The answer about the debug file x: its start, its name's text, and the rows of its lines; those rows of the table are x's lines.
 pub record FileAnswer (m : Nine) (c : Content) (x : File) (a : Answer DebugFile) : Type 0 where
@@ -202,13 +205,13 @@ module _ (f : List ℕ) (m : Nine) (c : Content) (loaded : loading f m ≡ ok c)
     -- what the constant is, by its kind: "0 and 2 string", "1 int32"
     pub pool-string : (j : ℕ) (q : PoolRow) → j < length (getD (recordsOf c) i d .body .pool)
         → let x = getD (getD (recordsOf c) i d .body .pool) j q in
-        (x .kind ≡ 0) ⊎ (x .kind ≡ 2) → pool f (held m c .records) (held m c .pool) i j ≡ ok (text (textRow (x .place) (x .length)))
+        IsString (x .kind) → pool f (held m c .records) (held m c .pool) i j ≡ ok (text (textRow (x .place) (x .length)))
     pool-string j q g k = pool-is j q g ∙ constant-string f _ (inside j q g .bytes) k
 
     -- paper 02, d): "Pool strings may have zero bytes inside; the last byte must still be zero."
     pub pool-string-ended : (j : ℕ) (q : PoolRow) → j < length (getD (recordsOf c) i d .body .pool)
         → let x = getD (getD (recordsOf c) i d .body .pool) j q in
-        (x .kind ≡ 0) ⊎ (x .kind ≡ 2) → StringInside f (textRow (x .place) (x .length))
+        IsString (x .kind) → StringInside f (textRow (x .place) (x .length))
     pool-string-ended j q g k = known-string f _ (inside j q g .known) k
 
     pub pool-int32 : (j : ℕ) (q : PoolRow) → j < length (getD (recordsOf c) i d .body .pool)

@@ -1,47 +1,34 @@
 -- Request d): eight-byte integers high byte first, pool strings with zero bytes inside, and texts that keep their rule.
 -- Assumes nothing.
-use Prim.Native.Nat.{ℕ, _+_, _-_, _<_}
+use Prim.Native.Nat.{ℕ, _+_, _-_}
 use native.Mathlib.Omega.{arith}
 use mathlib.Core.Path.{_≡_, refl, ap, _∙_}
-use mathlib.Core.Logic.{_↔_, _⊎_, ⊎-elim, inl, inr}
+use mathlib.Core.Logic.{_↔_, ⊎-elim}
 use mathlib.Core.Bool.{Bool, true, false, cond}
 use mathlib.Core.List.{List, [], _∷_}
-use lib.Dec.{eqb}
 use lib.ListN.{length}
-use borrow.Author.Tests.{leb-true, le-leb, eqb-true, eqb-false, eq-eqb, ne-eqb}
+use borrow.Author.Tests.{le-leb, eq-eqb, ne-eqb}
 use Rattle.format.specs.Bytes.{Answer, ok, refused, bind, Step, has, byte, noZero, twoAt, eightAt, u16At, u64At, le64At, signed64, int64At}
 use Rattle.format.specs.Rows.{TextRow}
-use Rattle.format.specs.Irep.{poolText, symbolText, bigInteger, poolValue, poolEntry}
+use Rattle.format.specs.Irep.{poolText, symbolText, bytes, bigInteger, poolValue, poolEntry}
 use Rattle.format.proofs.Bytes.{eight-u64}
-use Rattle.format.proofs.Answers.{ok-refused, ok-same, either, Refuses, weaker, tested, chained}
+use Rattle.format.proofs.Answers.{ok-refused, ok-same, Refuses, weaker, tested, chained}
 use Rattle.format.proofs.Texts.{NoZero, no-zero, no-zero-is}
+use Rattle.format.proofs.Pool.{NotEnded, string-refuses, IsString, value-cases}
 
 -- the eight bytes at a place, the last first
 abbrev pub turned : List ℕ → ℕ → List ℕ
 turned f at = byte f (at + 7) ∷ byte f (at + 6) ∷ byte f (at + 5) ∷ byte f (at + 4) ∷ byte f (at + 3) ∷ byte f (at + 2) ∷ byte f (at + 1) ∷ byte f at ∷ []
 
--- "Eight-byte pool integers are now read high byte first": what was read low byte first is what stands there from the last byte to the first.
+-- "Eight-byte pool integers are now read high byte first": low byte first they are what the same bytes are from the last to the first.
 pub int64-turned : (f : List ℕ) (at : ℕ) → int64At f at ≡ signed64 (le64At (turned f at) 0)
 int64-turned f at = ap signed64 (eight-u64 f at ∙ turns)
   where
     turns : u64At (eightAt f at) 0 ≡ le64At (turned f at) 0
     turns = omega arith
 
--- n + 1 bytes stand behind the length n at a place, and the last of them is not zero
-pub record NotEnded (f : List ℕ) (at : ℕ) : Type 0 where
-  pub there : at + 2 + u16At f at < length f
-  pub last : ¬ (byte f (at + 2 + u16At f at) ≡ 0)
-
 -- "the last byte must still be zero": a string meets 9 exactly where it is not
 module _ (f : List ℕ) (base at : ℕ) where
-  string-refuses : Refuses (λ k. k ≡ 9 → NotEnded f at) (poolText f base at)
-  unfolding poolText
-  string-refuses =
-      let n = u16At f at in
-      tested _ _ (has f at 2) _ 7 (λ e. absurd (omega arith)) (λ _. tested _ _ (has f (at + 2) (n + 1)) _ 7 (λ e. absurd (omega arith)) (λ b.
-      let q = leb-true (n + 1) (length f - (at + 2)) b in
-      either (Refuses _) (eqb (byte f (at + 2 + n)) 0) _ _ (λ _. tt) (λ z _. record { there = omega arith; last = eqb-false (byte f (at + 2 + n)) 0 z })))
-
   not-ended : NotEnded f at → poolText f base at ≡ refused 9
   unfolding poolText
   not-ended x =
@@ -50,44 +37,48 @@ module _ (f : List ℕ) (base at : ℕ) where
       rw (le-leb 2 (length f - at) (omega arith), le-leb (n + 1) (length f - (at + 2)) (omega arith), ne-eqb (byte f (at + 2 + n)) 0 (x .last))
 
   pub string-9 : (poolText f base at ≡ refused 9) ↔ NotEnded f at
-  string-9 = (λ e. rw e at string-refuses refl, not-ended)
+  string-9 = (λ e. rw e at (string-refuses f base at) refl, not-ended)
 
--- "Refusal 9 no longer meets an inner zero in the pool": an entry meets it exactly where it is a string that does not end with a zero
+-- an entry that is a string without a zero behind it
+pub record EntryNotEnded (f : List ℕ) (at : ℕ) : Type 0 where
+  pub kind : IsString (byte f at)
+  pub string : NotEnded f (at + 1)
+
+-- "Refusal 9 no longer meets an inner zero in the pool": an entry meets it exactly where it is such a string
 module _ (f : List ℕ) (base at : ℕ) where
-  abbrev kind : ℕ
-  kind = byte f at
+  abbrev Nine : {A : Type 0} → Answer A → Type 0
+  Nine x = Refuses (λ e. e ≡ 9 → EntryNotEnded f at) x
 
-  value-refuses : Refuses (λ e. e ≡ 9 → ((kind ≡ 0) ⊎ (kind ≡ 2)) × NotEnded f (at + 1)) (poolValue f base kind (at + 1))
-  unfolding poolValue bigInteger
+  value-refuses : Nine (poolValue f base (byte f at) (at + 1))
+  unfolding bigInteger
   value-refuses =
-      let P : Answer (Step TextRow) → Type 0 = Refuses (λ e. e ≡ 9 → ((kind ≡ 0) ⊎ (kind ≡ 2)) × NotEnded f (at + 1)) in
-      let never : (e : ℕ) → ¬ (e ≡ 9) → e ≡ 9 → ((kind ≡ 0) ⊎ (kind ≡ 2)) × NotEnded f (at + 1) = λ e h q. absurd (h q) in
-      let string : (kind ≡ 0) ⊎ (kind ≡ 2) → P (poolText f base (at + 1)) = λ z. weaker _ _ _ (poolText f base (at + 1)) (string-refuses f base (at + 1)) (λ e h q. (z, h q)) in
-      let seven : _≡_ {A = ℕ} 7 9 → ((kind ≡ 0) ⊎ (kind ≡ 2)) × NotEnded f (at + 1) = never 7 (λ q. omega arith) in
-      either P (eqb kind 0) _ _ (λ z. string (inl (eqb-true kind 0 z)))
-      (λ _. either P (eqb kind 2) _ _ (λ z. string (inr (eqb-true kind 2 z)))
-      (λ _. either P (eqb kind 1) _ _ (λ _. tested _ _ (has f (at + 1) 4) _ 7 seven (λ _. tt))
-      (λ _. either P (eqb kind 3) _ _ (λ _. tested _ _ (has f (at + 1) 8) _ 7 seven (λ _. tt))
-      (λ _. either P (eqb kind 5) _ _ (λ _. tested _ _ (has f (at + 1) 8) _ 7 seven (λ _. tt))
-      (λ _. either P (eqb kind 7) _ _
-      (λ _. tested _ _ (has f (at + 1) 1) _ 7 seven (λ _. tested _ _ (has f (at + 1 + 1) (byte f (at + 1) + 1)) _ 7 seven (λ _. tt)))
-      (λ _. never 10 (λ q. omega arith)))))))
+      let p = at + 1 in
+      let seven : _≡_ {A = ℕ} 7 9 → EntryNotEnded f at = λ q. absurd (omega arith) in
+      let number : (i n : ℕ) → Nine (bytes f base i n) = λ i n. tested _ _ (has f i n) _ 7 seven (λ _. tt) in
+      value-cases Nine f base (byte f at) p
+      (λ z. weaker _ _ _ (poolText f base p) (string-refuses f base p) (λ e h q. record { kind = z; string = h q }))
+      (λ _. number p 4)
+      (λ _. number p 8)
+      (λ _. number p 8)
+      (λ _. tested _ _ (has f p 1) _ 7 seven (λ _. number (p + 1) (byte f p + 1)))
+      (λ q. absurd (omega arith))
 
-  entry-refuses : Refuses (λ e. e ≡ 9 → ((kind ≡ 0) ⊎ (kind ≡ 2)) × NotEnded f (at + 1)) (poolEntry f base at)
+  entry-refuses : Nine (poolEntry f base at)
   unfolding poolEntry
   entry-refuses =
-      tested _ _ (has f at 1) _ 7 (λ e. absurd (omega arith)) (λ _. chained _ _ _ (poolValue f base kind (at + 1)) _ value-refuses (λ v _. tt))
+      tested _ _ (has f at 1) _ 7 (λ e. absurd (omega arith)) (λ _. chained _ _ _ (poolValue f base (byte f at) (at + 1)) _ value-refuses (λ v _. tt))
 
-  entry-not-ended : (kind ≡ 0) ⊎ (kind ≡ 2) → NotEnded f (at + 1) → poolEntry f base at ≡ refused 9
+  entry-not-ended : EntryNotEnded f at → poolEntry f base at ≡ refused 9
   unfolding poolEntry poolValue
-  entry-not-ended z x =
-      let h = x .there in
+  entry-not-ended x =
+      let k = byte f at in
+      let h = x .string .there in
       let a = le-leb 1 (length f - at) (omega arith) in
-      let e = not-ended f base (at + 1) x in
-      ⊎-elim (λ q. rw (a, eq-eqb kind 0 q, e)) (λ q. rw (a, ne-eqb kind 0 (λ z. omega arith), eq-eqb kind 2 q, e)) z
+      let e = not-ended f base (at + 1) (x .string) in
+      ⊎-elim (λ q. rw (a, eq-eqb k 0 q, e)) (λ q. rw (a, ne-eqb k 0 (λ z. omega arith), eq-eqb k 2 q, e)) (x .kind)
 
-  pub entry-9 : (poolEntry f base at ≡ refused 9) ↔ ((kind ≡ 0) ⊎ (kind ≡ 2)) × NotEnded f (at + 1)
-  entry-9 = (λ e. rw e at entry-refuses refl, λ x. entry-not-ended (x .0) (x .1))
+  pub entry-9 : (poolEntry f base at ≡ refused 9) ↔ EntryNotEnded f at
+  entry-9 = (λ e. rw e at entry-refuses refl, entry-not-ended)
 
 -- "Pool strings may have zero bytes inside": of two files of one length a string is read alike where its length and the byte behind it are the same,
 -- whatever stands inside.
@@ -115,6 +106,6 @@ module _ (f : List ℕ) (base at : ℕ) (s : Step TextRow) where
       go (ok t) e = tail t (noZero f (t .it .length) (at + 2)) refl e
       go (refused k) e = absurd (ok-refused e)
 
-  -- so every string that paper 01's rule takes is read as before
+  -- so every string that paper 01's rule reads is read alike
   pub string-kept : symbolText f base at ≡ ok s → poolText f base at ≡ ok s
   string-kept e = symbol-ok .0 e .0

@@ -20,6 +20,7 @@ use Rattle.format.specs.Packed.{packedFrom, packed, packedEntry, keeps}
 use Rattle.format.specs.Debug.{above, fileHead, mapEntry, after, goesOn, mapLines, fileLines, filesFrom, debugRecord, Debug, debugContent, debugSection}
 use Rattle.format.specs.File.{Content, nothing, content, isMark, endSection, once, afterIrep, sectionAt, sections, fileRefusal, fileReading}
 use Rattle.format.proofs.Answers.{either, Holds, weaker, answered, tested, chained}
+use Rattle.format.proofs.Pool.{value-cases}
 use Rattle.laws.proofs.Numbers.{Among, testNumbers, sectionNumbers, readingNumbers, further}
 use Rattle.laws.proofs.Tests.{tests-among}
 
@@ -95,14 +96,8 @@ module _ (f : List ℕ) where
   big-low base at = tested _ _ (has f at 1) _ 7 tt (λ _. bytes-low base (at + 1) (byte f at + 1))
 
   value-low : (base k at : ℕ) → Low (poolValue f base k at)
-  unfolding poolValue
   value-low base k at =
-      either Low (eqb k 0) _ _ (λ _. string-low base at)
-      (λ _. either Low (eqb k 2) _ _ (λ _. string-low base at)
-      (λ _. either Low (eqb k 1) _ _ (λ _. bytes-low base at 4)
-      (λ _. either Low (eqb k 3) _ _ (λ _. bytes-low base at 8)
-      (λ _. either Low (eqb k 5) _ _ (λ _. bytes-low base at 8)
-      (λ _. either Low (eqb k 7) _ _ (λ _. big-low base at) (λ _. tt))))))
+      value-cases Low f base k at (λ _. string-low base at) (λ _. bytes-low base at 4) (λ _. bytes-low base at 8) (λ _. bytes-low base at 8) (λ _. big-low base at) tt
 
   entry-low : (base at : ℕ) → Low (poolEntry f base at)
   unfolding poolEntry

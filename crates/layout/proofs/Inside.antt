@@ -15,15 +15,16 @@ use Rattle.format.specs.Bytes.{Answer, ok, refused, onAnswer, Step, has, byte, 
 use Rattle.format.specs.Headers as mark
 use Rattle.format.specs.Reading.{Read, reading, Part, part, add, andThen, inTurn}
 use Rattle.format.specs.Rows.{PoolRow, TextRow, textRow, NameRow}
-use Rattle.format.specs.Irep.{handler, poolText, symbolText, bigInteger, poolValue, poolEntry, counted, headAt, Body, Rec, bodyAt, recordAt, recordsFrom, irepSection}
+use Rattle.format.specs.Irep.{handler, poolText, symbolText, bytes, bigInteger, poolValue, poolEntry, counted, headAt, Body, Rec, bodyAt, recordAt, recordsFrom, irepSection}
 use Rattle.format.specs.Walk.{walk}
 use Rattle.format.specs.Lvar.{plainText, nameEntry, recordNames, Lvar, lvarSection}
 use Rattle.format.specs.Debug.{FileHead, above, fileHead, fileLines, File, filesFrom, debugRecord, Debug, debugContent, debugSection}
 use Rattle.format.specs.File.{Content, isMark, once, afterIrep, sectionAt, nothing, fileReading}
 use Rattle.format.specs.Load.{Nine, recordsOf, stringsOf, namesOf, fileNamesOf, filesOf, tablesOf, used, fits, ending, loading}
 use Rattle.format.proofs.Table.{both}
-use Rattle.format.proofs.Answers.{ok-refused, either, Answers, tested, chained, inTurn-all}
-use Rattle.format.proofs.Texts.{NoZero, no-zero, StringAt, string-at}
+use Rattle.format.proofs.Answers.{false-true, ok-refused, either, Answers, implied, tested, chained, inTurn-all}
+use Rattle.format.proofs.Texts.{NoZero, no-zero}
+use Rattle.format.proofs.Pool.{StringAt, string-at, IsString, value-cases}
 use Rattle.layout.proofs.Ends.{bind-ok, andThen-ok, Each, each-none, each-more, inTurn-each, Good, GoodRows, reading-keeps, reading-accepted}
 
 -- bytes inside the file f
@@ -47,8 +48,7 @@ pub record PlainInside (f : List ℕ) (t : TextRow) : Type 0 where
 
 -- a pool entry of a kind that the format knows; a string ends as strings do, a number has its kind's length
 pub data Known (f : List ℕ) (q : PoolRow) : Type 0 where
-  string : q .kind ≡ 0 → StringInside f (textRow (q .place) (q .length)) → Known f q
-  static-string : q .kind ≡ 2 → StringInside f (textRow (q .place) (q .length)) → Known f q
+  string : IsString (q .kind) → StringInside f (textRow (q .place) (q .length)) → Known f q
   int32 : q .kind ≡ 1 → q .length ≡ 4 → Known f q
   int64 : q .kind ≡ 3 → q .length ≡ 8 → Known f q
   float64 : q .kind ≡ 5 → q .length ≡ 8 → Known f q
@@ -95,9 +95,6 @@ andThen-each : {R : Type 0} (P : R → Type 0) (e : Answer ℕ) (k : ℕ → Rea
 andThen-each P (ok at) k h = h at
 andThen-each P (refused e) k h = each-none P
 
-false-true : false ≡ true → ⊥
-false-true e = let z : _≡_ {A = ℕ} 0 1 = cc in omega arith
-
 -- n bytes are left
 left : (f : List ℕ) (at n : ℕ) → has f at n ≡ true → n ≤ length f - at
 left f at n e = leb-true n (length f - at) e
@@ -139,30 +136,23 @@ module _ (f : List ℕ) (base : ℕ) (all : List ℕ) (part-of : PartOf f base a
   abbrev entry : ℕ → Step TextRow → PoolRow
   entry k v = record { kind = k; place = v .it .place; length = v .it .length }
 
-  -- a string as a pool entry
-  string-entry : (k at : ℕ) → ((v : Step TextRow) → StringInside all (v .it) → Known all (entry k v)) → Answers (λ v. PoolInside all (entry k v)) (poolText f base at)
-  string-entry k at h = go (poolText f base at) (string-at f base at)
-    where
-      go : (a : Answer (Step TextRow)) → Answers (λ s. StringAt f base at (s .it)) a → Answers (λ v. PoolInside all (entry k v)) a
-      go (ok v) x = let y = string-inside at (v .it) x in let g = y .inside in record { bytes = omega arith; known = h v y }
-      go (refused e) x = tt
+  -- so many bytes as a pool entry
+  bytes-entry : (k at n : ℕ) → 0 < n → Known all (record { kind = k; place = base + at; length = n }) → Answers (λ v. PoolInside all (entry k v)) (bytes f base at n)
+  bytes-entry k at n h known = tested _ _ (has f at n) _ 7 tt (λ a. record { bytes = bytes-inside at n h a; known = known })
 
   value-inside : (k at : ℕ) → Answers (λ v. PoolInside all (entry k v)) (poolValue f base k at)
-  unfolding poolValue bigInteger
+  unfolding bigInteger
   value-inside k at =
-      let P : Answer (Step TextRow) → Type 0 = Answers (λ v. PoolInside all (entry k v)) in
-      either P (eqb k 0) _ _ (λ e. string-entry k at (λ v. string (eqb-true k 0 e))) (λ _.
-      either P (eqb k 2) _ _ (λ e. string-entry k at (λ v. static-string (eqb-true k 2 e))) (λ _.
-      either P (eqb k 1) _ _
-      (λ e. tested _ _ (has f at 4) _ 7 tt (λ a. record { bytes = bytes-inside at 4 (omega arith) a; known = int32 (eqb-true k 1 e) refl })) (λ _.
-      either P (eqb k 3) _ _
-      (λ e. tested _ _ (has f at 8) _ 7 tt (λ a. record { bytes = bytes-inside at 8 (omega arith) a; known = int64 (eqb-true k 3 e) refl })) (λ _.
-      either P (eqb k 5) _ _
-      (λ e. tested _ _ (has f at 8) _ 7 tt (λ a. record { bytes = bytes-inside at 8 (omega arith) a; known = float64 (eqb-true k 5 e) refl })) (λ _.
-      either P (eqb k 7) _ _
-      (λ e. tested _ _ (has f at 1) _ 7 tt (λ _. tested _ _ (has f (at + 1) (byte f at + 1)) _ 7 tt (λ a.
-      record { bytes = bytes-inside (at + 1) (byte f at + 1) (omega arith) a; known = big-integer (eqb-true k 7 e) })))
-      (λ _. tt))))))
+      value-cases (Answers (λ v. PoolInside all (entry k v))) f base k at
+      (λ e. implied _ _ _ (poolText f base at) (string-at f base at) (λ v x.
+      let y = string-inside at (v .it) x in
+      let g = y .inside in
+      record { bytes = omega arith; known = string e y }))
+      (λ e. bytes-entry k at 4 (omega arith) (int32 e refl))
+      (λ e. bytes-entry k at 8 (omega arith) (int64 e refl))
+      (λ e. bytes-entry k at 8 (omega arith) (float64 e refl))
+      (λ e. tested _ _ (has f at 1) _ 7 tt (λ _. bytes-entry k (at + 1) (byte f at + 1) (omega arith) (big-integer e)))
+      tt
 
   entry-inside : (at : ℕ) → Answers (λ s. PoolInside all (s .it)) (poolEntry f base at)
   unfolding poolEntry

@@ -1,4 +1,4 @@
--- Laws of `times` and of a table's rows, which every reader's proof cites.
+-- Laws of `times`, of a table's rows, of the loop over a text's bytes and of a span, which readers' proofs cite.
 -- Assumes nothing.
 use Prim.Native.Nat.{ℕ, zero, suc, _+_, _-_, _*_, _/_, _≤_, _<_}
 use mathlib.Core.Path.{_≡_, refl, sym, ap, _∙_}

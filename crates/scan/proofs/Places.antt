@@ -13,14 +13,12 @@ use Rattle.format.specs.Bytes.{byte, first}
 use Rattle.format.specs.Insn.{width, kind, row, size, rest}
 use Rattle.format.specs.Pattern.{reach, begins}
 use Rattle.format.specs.Exam.{firstAt}
+use Rattle.format.proofs.Answers.{false-true}
 use Rattle.runs.proofs.Table.{width-small}
 
 pub record Place (c : List ℕ) (i left : ℕ) : Type 0 where
   pub small : left ≤ 5
   pub ahead : (j : ℕ) → begins c (i + j) ≡ reach (drop i c) left j
-
-true-not-false : true ≡ false → ⊥
-true-not-false e = let z : _≡_ {A = ℕ} 0 1 = cc in omega arith
 
 less : (n w : ℕ) → n ≡ suc w → w ≡ n - 1
 less n w e = omega arith
@@ -68,7 +66,7 @@ module _ {c : List ℕ} where
         go (suc l) q = let z : false ≡ true = rw (drop-cons c i 0 h) at q in cc
 
     pub place-more : begins c i ≡ false → left ≡ 0 → ⊥
-    place-more e z = let q = place-begins z in true-not-false (sym q ∙ e)
+    place-more e z = let q = place-begins z in false-true (sym e ∙ q)
 
 -- the first refusal from a place on
 module _ (f : ℕ → ℕ) (c : List ℕ) (i left : ℕ) where

@@ -9,7 +9,7 @@ use borrow.Author.Needs.{needs}
 use Rattle.format.specs.Bytes.{ok, step}
 use Rattle.format.specs.Rows.{textRow}
 use Rattle.format.specs.Irep.{poolText, symbolText}
-use Rattle.format.proofs.Texts.{string-at}
+use Rattle.format.proofs.Pool.{string-at}
 use Rattle.rows.specs.Rows.{symbolTextOf}
 use Rattle.rows.proofs.Laws.{string-read}
 use Rattle.rows.proofs.pool_text.Reads as pool-text-reads
