@@ -30,10 +30,10 @@ firstAt-same f g e (b ∷ bs) zero o = rw (e o, firstAt-same f g e bs (rest b bs
 firstAt-same f g e (b ∷ bs) (suc left) o = firstAt-same f g e bs left (suc o)
 
 record Same (l : List ℕ) (R : Record) : Type 0 where
-  pub regs : getD l 0 0 ≡ R .nregs
-  pub constants : getD l 1 0 ≡ R .npool
-  pub symbols : getD l 2 0 ≡ R .nsyms
-  pub children : getD l 3 0 ≡ R .rlen
+  pub regs : bare l [] .nregs ≡ R .nregs
+  pub constants : bare l [] .npool ≡ R .npool
+  pub symbols : bare l [] .nsyms ≡ R .nsyms
+  pub children : bare l [] .rlen ≡ R .rlen
 
 module _ (l : List ℕ) (R : Record) (s : Same l R) where
   below-same : (x : Role) (v : ℕ) → below (bare l (R .code)) x v ≡ below R x v
@@ -61,7 +61,7 @@ module _ (l : List ℕ) (R : Record) (s : Same l R) where
 
 -- the words that the code reads
 abbrev pub limitsAt : List ℕ → ℕ → List ℕ
-limitsAt recs r = word 19 recs r 2 ∷ word 19 recs r 10 ∷ word 19 recs r 12 ∷ word 19 recs r 3 ∷ 256 ∷ []
+limitsAt recs r = 256 ∷ word 19 recs r 2 ∷ word 19 recs r 10 ∷ word 19 recs r 12 ∷ word 19 recs r 3 ∷ []
 
 module _ (f recs hs ls : List ℕ) (r : ℕ) where
   pub record-is : (a e h hn l ln n : ℕ) → a ≡ word 19 recs r 6 → n ≡ word 19 recs r 5 → e ≡ a + n

@@ -104,13 +104,13 @@ pub fn examine_record(
     let row = r * 19;
     let place = word(records, row + 6);
     let end = place + word(records, row + 5);
-    // By the number of an operand's role: registers, constants, symbols, children, none.
+    // By the number of an operand's role: none, registers, constants, symbols, children.
     let limits: [u32; 5] = [
+        256,
         records[row + 2],
         records[row + 10],
         records[row + 12],
         records[row + 3],
-        256,
     ];
     examine_part(
         &file[place..end],

@@ -14,7 +14,7 @@ use Rattle.format.specs.Pattern.{Record, begins, lands}
 use Rattle.format.specs.Exam.{leads, hasTarget, operandsBelow, follows, at1718}
 use Rattle.runs.proofs.Begins.{reach-inside, begins-next}
 use Rattle.runs.proofs.Jumps.{jump-wide, operand}
-use Rattle.flags.specs.Digits.{flagInside, flagLast}
+use Rattle.opcode.specs.Digits.{flagInside, flagLast}
 use Rattle.flags.specs.Flags.{bare, flagAt, judged, Marked, Flagged, jumpFrom, landsFrom}
 
 -- the flags

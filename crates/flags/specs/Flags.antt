@@ -7,26 +7,19 @@ use mathlib.Core.List.{List, []}
 use lib.Dec.{leb, ltb}
 use lib.ListN.{length, getD}
 use Rattle.format.specs.Bytes.{byte, u16At, refuse}
-use Rattle.format.specs.Insn.{Role, reg, pool, sym, child, plain, flow, rowAt, next, signed16}
+use Rattle.format.specs.Insn.{flow, rowAt, next, signed16}
 use Rattle.format.specs.Pattern.{Record, begins}
 use Rattle.format.specs.Exam.{below, operandsBelow}
-use Rattle.flags.specs.Digits.{instruction, digitsOf, flagInside, flagLast}
+use Rattle.opcode.specs.Digits.{roleAt, flagInside, flagLast, instruction, digitsOf}
 
 -- what operands have to stay below, by the number of their role: 256 where it is plain
 pub record Limits (l : List ℕ) : Type 0 where
   pub five : length l ≡ 5
-  pub plain-limit : getD l 4 0 ≡ 256
+  pub plain-limit : getD l 0 0 ≡ 256
 
 abbrev pub bare : List ℕ → List ℕ → Record
 bare l c =
-    record { nregs = getD l 0 0; rlen = getD l 3 0; npool = getD l 1 0; nsyms = getD l 2 0; code = c; handlers = []; lines = [] }
-
-abbrev pub roleAt : ℕ → Role
-roleAt zero = reg
-roleAt (suc zero) = pool
-roleAt (suc (suc zero)) = sym
-roleAt (suc (suc (suc zero))) = child
-roleAt (suc (suc (suc (suc x)))) = plain
+    record { nregs = getD l 1 0; rlen = getD l 4 0; npool = getD l 2 0; nsyms = getD l 3 0; code = c; handlers = []; lines = [] }
 
 -- 17 at one operand, the byte at i, whose role has the number x
 abbrev pub operandBelow : List ℕ → List ℕ → ℕ → ℕ → Bool
@@ -35,7 +28,7 @@ operandBelow l c i x = below (bare l []) (roleAt x) (byte c i)
 -- it is there unless it is plain
 pub record Operand (c : List ℕ) (i x : ℕ) : Type 0 where
   pub role : x < 5
-  pub there : x < 4 → i < length c
+  pub there : 0 < x → i < length c
 
 -- d: the digits of the instruction at o, which is known and whole
 pub record Looked (c : List ℕ) (o d : ℕ) : Type 0 where

@@ -1,5 +1,6 @@
 -- Instructions: the 119 opcodes with operand kind, roles and flow, sizes, operands, jump targets, and what fetch answers.
--- Paper 01, 'Fetch and line lookup', 'Examination'; names and kinds are those of insn.rs's ENUM_TABLE and FETCH_TABLE.
+-- Paper 01, 'Fetch and line lookup', 'Examination'; names and kinds are those of insn.rs's ENUM_TABLE and FETCH_TABLE. Paper 02, c): the roles of
+-- GETIDX0, SSEND0, SEND0, TDEF and SDEF.
 -- Assumes nothing.
 use Prim.Native.Nat.{ℕ, zero, suc, _+_, _-_}
 use mathlib.Core.Bool.{Bool, cond, _&&_}
@@ -226,7 +227,7 @@ table =
     op GETUPVAR BBB (reg ∷ plain ∷ plain ∷ []) on ∷  -- 33
     op SETUPVAR BBB (reg ∷ plain ∷ plain ∷ []) on ∷  -- 34
     op GETIDX B (reg ∷ []) on ∷  -- 35
-    op GETIDX0 BB (reg ∷ plain ∷ []) on ∷  -- 36
+    op GETIDX0 BB (reg ∷ reg ∷ []) on ∷  -- 36
     op SETIDX B (reg ∷ []) on ∷  -- 37
     op JMP S (plain ∷ []) jumps ∷  -- 38
     op JMPIF BS (reg ∷ plain ∷ []) may ∷  -- 39
@@ -238,10 +239,10 @@ table =
     op RAISEIF B (reg ∷ []) on ∷  -- 45
     op MATCHERR B (reg ∷ []) on ∷  -- 46
     op SSEND BBB (reg ∷ sym ∷ plain ∷ []) on ∷  -- 47
-    op SSEND0 BB (reg ∷ plain ∷ []) on ∷  -- 48
+    op SSEND0 BB (reg ∷ sym ∷ []) on ∷  -- 48
     op SSENDB BBB (reg ∷ sym ∷ plain ∷ []) on ∷  -- 49
     op SEND BBB (reg ∷ sym ∷ plain ∷ []) on ∷  -- 50
-    op SEND0 BB (reg ∷ plain ∷ []) on ∷  -- 51
+    op SEND0 BB (reg ∷ sym ∷ []) on ∷  -- 51
     op SENDB BBB (reg ∷ sym ∷ plain ∷ []) on ∷  -- 52
     op CALL Z [] ends ∷  -- 53
     op BLKCALL BB (reg ∷ plain ∷ []) on ∷  -- 54
@@ -297,8 +298,8 @@ table =
     op MODULE BB (reg ∷ sym ∷ []) on ∷  -- 104
     op EXEC BB (reg ∷ child ∷ []) on ∷  -- 105
     op DEF BB (reg ∷ sym ∷ []) on ∷  -- 106
-    op TDEF BBB (reg ∷ plain ∷ plain ∷ []) on ∷  -- 107
-    op SDEF BBB (reg ∷ plain ∷ plain ∷ []) on ∷  -- 108
+    op TDEF BBB (reg ∷ sym ∷ child ∷ []) on ∷  -- 107
+    op SDEF BBB (reg ∷ sym ∷ child ∷ []) on ∷  -- 108
     op ALIAS BB (sym ∷ sym ∷ []) on ∷  -- 109
     op UNDEF B (sym ∷ []) on ∷  -- 110
     op SCLASS B (reg ∷ []) on ∷  -- 111

@@ -1,13 +1,15 @@
--- Paper 01's sentences on roles, jumps and endings ('Examination'), as lists of opcodes: a second rendering of the table of opcodes.
+-- Paper 01's sentences on roles, jumps and endings ('Examination') and paper 02's on newer opcodes (c), as lists of opcodes: a second rendering of the
+-- table of opcodes.
 -- proofs/Table.antt has the computed test that the two agree.
 -- Assumes nothing.
 use Prim.Native.Nat.{ℕ}
 use mathlib.Core.Bool.{Bool, false, _||_, _&&_, cond}
 use mathlib.Core.List.{List, [], _∷_}
 use lib.Dec.{eqb, leb}
-use Rattle.format.specs.Insn.{OpCode, MOVE, LOADL, LOADSYM, GETGV, SETMCNST, JMP, JMPIF, JMPNOT, JMPNIL, JMPUW, RESCUE, SSEND, SSENDB, SEND}
-use Rattle.format.specs.Insn.{SENDB, CALL, «KEY_P», KARG, RETURN, «RETURN_BLK», RETSELF, RETNIL, RETTRUE, RETFALSE, BREAK, ARRAY2, AREF, ASET}
-use Rattle.format.specs.Insn.{SYMBOL, STRING, LAMBDA, BLOCK, METHOD, CLASS, MODULE, EXEC, DEF, ALIAS, UNDEF, DEBUG, ERR, STOP, number, Kind, Z}
+use Rattle.format.specs.Insn.{OpCode, MOVE, LOADL, LOADSYM, GETGV, SETMCNST, GETIDX0, JMP, JMPIF, JMPNOT, JMPNIL, JMPUW, RESCUE, SSEND, SSEND0}
+use Rattle.format.specs.Insn.{SSENDB, SEND, SEND0, SENDB, CALL, «KEY_P», KARG, RETURN, «RETURN_BLK», RETSELF, RETNIL, RETTRUE, RETFALSE, BREAK}
+use Rattle.format.specs.Insn.{ARRAY2, AREF, ASET, SYMBOL, STRING, LAMBDA, BLOCK, METHOD, CLASS, MODULE, EXEC, DEF, TDEF, SDEF, ALIAS, UNDEF}
+use Rattle.format.specs.Insn.{DEBUG, ERR, STOP, number, Kind, Z}
 use Rattle.format.specs.Insn.{B, BB, S, BBB, BS, W, BSS, Role, reg, pool, sym, child, plain, Flow, on, ends, jumps, may, Row, op}
 
 abbrev pub among : List OpCode → OpCode → Bool
@@ -26,24 +28,30 @@ firstRole o =
     (cond (among (DEBUG ∷ []) o) plain reg))
 
 -- "Second operand: register in MOVE, RESCUE, ARRAY2, AREF, ASET; pool in LOADL, SYMBOL, STRING; symbol in LOADSYM, GETGV to SETMCNST,
--- SSEND, SSENDB, SEND, SENDB, KEY_P, KARG, CLASS, MODULE, DEF, ALIAS; child in LAMBDA, BLOCK, METHOD, EXEC. All else is plain"
+-- SSEND, SSENDB, SEND, SENDB, KEY_P, KARG, CLASS, MODULE, DEF, ALIAS; child in LAMBDA, BLOCK, METHOD, EXEC. All else is plain"; paper 02:
+-- "GETIDX0's second operand is a register. In SSEND0 and SEND0 the second is a symbol. In TDEF and SDEF the second is a symbol"
 abbrev pub secondRole : OpCode → Role
 secondRole o =
-    cond (among (MOVE ∷ RESCUE ∷ ARRAY2 ∷ AREF ∷ ASET ∷ []) o) reg
+    cond (among (MOVE ∷ RESCUE ∷ ARRAY2 ∷ AREF ∷ ASET ∷ GETIDX0 ∷ []) o) reg
     (cond (among (LOADL ∷ SYMBOL ∷ STRING ∷ []) o) pool
     (cond (among (LOADSYM ∷ []) o || between GETGV SETMCNST o
-    || among (SSEND ∷ SSENDB ∷ SEND ∷ SENDB ∷ «KEY_P» ∷ KARG ∷ CLASS ∷ MODULE ∷ DEF ∷ ALIAS ∷ []) o) sym
+    || among (SSEND ∷ SSENDB ∷ SEND ∷ SENDB ∷ «KEY_P» ∷ KARG ∷ CLASS ∷ MODULE ∷ DEF ∷ ALIAS ∷ []) o
+    || among (SSEND0 ∷ SEND0 ∷ TDEF ∷ SDEF ∷ []) o) sym
     (cond (among (LAMBDA ∷ BLOCK ∷ METHOD ∷ EXEC ∷ []) o) child plain)))
+
+-- "and the third a child. The other opcodes without a comment keep paper 01's roles."
+abbrev pub thirdRole : OpCode → Role
+thirdRole o = cond (among (TDEF ∷ SDEF ∷ []) o) child plain
 
 abbrev pub rolesBy : OpCode → Kind → List Role
 rolesBy o Z = []
 rolesBy o B = firstRole o ∷ []
 rolesBy o BB = firstRole o ∷ secondRole o ∷ []
 rolesBy o S = plain ∷ []
-rolesBy o BBB = firstRole o ∷ secondRole o ∷ plain ∷ []
+rolesBy o BBB = firstRole o ∷ secondRole o ∷ thirdRole o ∷ []
 rolesBy o BS = firstRole o ∷ secondRole o ∷ []
 rolesBy o W = plain ∷ []
-rolesBy o BSS = firstRole o ∷ secondRole o ∷ plain ∷ []
+rolesBy o BSS = firstRole o ∷ secondRole o ∷ thirdRole o ∷ []
 
 -- "Jumps (JMP, JMPUW, JMPIF, JMPNOT, JMPNIL)"; "JMP and JMPUW jump", the others by choice 1. "Ending: RETURN, RETURN_BLK, RETSELF, RETNIL,
 -- RETTRUE, RETFALSE, BREAK, CALL, ERR, STOP."

@@ -31,15 +31,18 @@ frame r o = record { rec = r; at = o }
 abbrev pub codeOf : Pattern → Frame → List ℕ
 codeOf p f = recAt p (f .rec) .code
 
+abbrev pub isChild : Role → Bool
+isChild reg = false
+isChild pool = false
+isChild sym = false
+isChild child = true
+isChild plain = false
+
 -- "A child opcode is one with a child operand, which numbers the child."
 unfoldable pub childOperand : List Role → List ℕ → Option ℕ
 childOperand [] vs = none
 childOperand (x ∷ xs) [] = none
-childOperand (reg ∷ xs) (v ∷ vs) = childOperand xs vs
-childOperand (pool ∷ xs) (v ∷ vs) = childOperand xs vs
-childOperand (sym ∷ xs) (v ∷ vs) = childOperand xs vs
-childOperand (child ∷ xs) (v ∷ vs) = some v
-childOperand (plain ∷ xs) (v ∷ vs) = childOperand xs vs
+childOperand (x ∷ xs) (v ∷ vs) = cond (isChild x) (some v) (childOperand xs vs)
 
 -- What a choice does to the top frame, told by its record alone: the frame goes; it passes to an offset; it passes to an offset and a child,
 -- by its number, is entered.

@@ -11,4 +11,5 @@ pub mod Counts
 pub mod Refusals
 pub mod Header
 pub mod Constants
+pub mod Newer
 pub mod Samples

@@ -1,5 +1,5 @@
 -- Paper 01's starred samples, as one table of the definitions, with some that it does not star, those of ident and size as paper 02's g) has them,
--- and constants as its d) reads them; and sample A as a file that passes.
+-- constants as its d) reads them and newer opcodes as its c) does; and sample A as a file that passes.
 -- Assumes nothing.
 use Prim.Native.Nat.{ℕ}
 use mathlib.Core.Path.{_≡_, refl}
@@ -24,7 +24,7 @@ use Rattle.format.specs.Tree.{layout, whole, span, childOf}
 use Rattle.format.specs.Pattern.{Record, patternOf, reach, lands}
 use Rattle.format.specs.Exam.{FilePasses, readable, below, allBelow, operandsBelow, follows, firstAt, firstOf, exam16, exam1718, exam19, exam20}
 use Rattle.format.specs.Exam.{examineRecord, examineAll, examinePattern, passing, examining, examine}
-use Rattle.format.specs.Run.{Choice, frame, go-on, caught, leave, childOperand, move, oneStep, runFrom, choicesFrom, choices, finished, stands}
+use Rattle.format.specs.Run.{Choice, frame, go-on, enter, caught, leave, childOperand, move, oneStep, runFrom, run, choicesFrom, choices, finished, stands}
 use Rattle.format.specs.Run.{standing, laidFrames, frameTable, following, follow}
 use Rattle.format.specs.Claim.{Claim}
 use Rattle.runs.proofs.Refusal.{passes-iff}
@@ -76,6 +76,12 @@ zeroInside = 0 ∷ 3 ∷ 97 ∷ 0 ∷ 98 ∷ 0 ∷ []
 alone : List ℕ → List Record
 alone c = record { nregs = 2; rlen = 0; npool = 0; nsyms = 0; code = c; handlers = []; lines = [] } ∷ []
 
+-- Paper 02, c): a record with these instructions, 3 registers, 1 symbol and 2 children, which return
+family : List ℕ → List Record
+family c =
+    let one : Record = record { nregs = 3; rlen = 0; npool = 2; nsyms = 0; code = 61 ∷ 0 ∷ []; handlers = []; lines = [] } in
+    record { nregs = 3; rlen = 2; npool = 2; nsyms = 1; code = c ++ 61 ∷ 0 ∷ []; handlers = []; lines = [] } ∷ one ∷ one ∷ []
+
 record Table : Type 0 where
   a-loads : load fileA (lent 38) .answer ≡ ok (lent 1)
   a-row : load fileA (lent 38) .tables .records ≡ 24 ∷ 1 ∷ 2 ∷ 0 ∷ 0 ∷ 4 ∷ 48 ∷ replicate 31 0
@@ -104,6 +110,20 @@ record Table : Type 0 where
   int64-low-byte-first : int64At (2 ∷ 1 ∷ 0 ∷ 0 ∷ 0 ∷ 0 ∷ 0 ∷ 0 ∷ []) 0 ≡ pos 144396663052566528
   int64-below-0 : int64At (255 ∷ 255 ∷ 255 ∷ 255 ∷ 255 ∷ 255 ∷ 255 ∷ 254 ∷ []) 0 ≡ negsuc 1
   int64-lowest : int64At (128 ∷ 0 ∷ 0 ∷ 0 ∷ 0 ∷ 0 ∷ 0 ∷ 0 ∷ []) 0 ≡ negsuc 9223372036854775807
+  getidx0-last : examinePattern (family (36 ∷ 0 ∷ 2 ∷ [])) ≡ 0
+  getidx0-high : examinePattern (family (36 ∷ 0 ∷ 3 ∷ [])) ≡ 17
+  ssend0-last : examinePattern (family (48 ∷ 0 ∷ 0 ∷ [])) ≡ 0
+  ssend0-high : examinePattern (family (48 ∷ 0 ∷ 1 ∷ [])) ≡ 17
+  send0-last : examinePattern (family (51 ∷ 0 ∷ 0 ∷ [])) ≡ 0
+  send0-high : examinePattern (family (51 ∷ 0 ∷ 1 ∷ [])) ≡ 17
+  tdef-last : examinePattern (family (107 ∷ 0 ∷ 0 ∷ 1 ∷ [])) ≡ 0
+  tdef-symbol-high : examinePattern (family (107 ∷ 0 ∷ 1 ∷ 1 ∷ [])) ≡ 17
+  tdef-child-high : examinePattern (family (107 ∷ 0 ∷ 0 ∷ 2 ∷ [])) ≡ 17
+  sdef-child-high : examinePattern (family (108 ∷ 0 ∷ 0 ∷ 2 ∷ [])) ≡ 17
+  blkcall-any : examinePattern (family (54 ∷ 0 ∷ 255 ∷ [])) ≡ 0
+  addilv-any : examinePattern (family (73 ∷ 0 ∷ 255 ∷ 255 ∷ [])) ≡ 0
+  tdef-enters : run (family (107 ∷ 0 ∷ 0 ∷ 1 ∷ [])) (enter ∷ []) ≡ frame 2 0 ∷ frame 0 4 ∷ []
+  sdef-enters : run (family (108 ∷ 0 ∷ 0 ∷ 0 ∷ [])) (enter ∷ []) ≡ frame 1 0 ∷ frame 0 4 ∷ []
   packed-two : packed (129 ∷ 1 ∷ []) 0 ≡ ok (step 129 2)
   packed-most : packed (255 ∷ 255 ∷ 255 ∷ 255 ∷ 15 ∷ []) 0 ≡ ok (step 4294967295 5)
   packed-dropped : packed (255 ∷ 255 ∷ 255 ∷ 255 ∷ 127 ∷ []) 0 ≡ ok (step 4294967295 5)
@@ -136,7 +156,7 @@ samples : Table
 unfolding table row operands opcode rest lastOf jump target fetchAs fetch packedFrom packed halve lineAt handler poolText symbolText bigInteger poolValue
     poolEntry counted headAt bodyAt recordAt recordsFrom irepSection walk noZero plainText nameEntry recordNames lvarSection fileHead mapEntry
     mapLines filesFrom debugRecord debugContent debugSection packedEntry endSection sectionAt sections fileRefusal fileReading fits ending loading load sized
-    endAlone lent alone fileD lentPool constantD zeroInside recordIn rowIn bytesIn constantAt constantOf pool
+    endAlone lent alone family fileD lentPool constantD zeroInside recordIn rowIn bytesIn constantAt constantOf pool
     rising layout span childOf reach lands readable below allBelow operandsBelow follows firstAt firstOf exam16 exam1718 exam19 exam20 examineRecord
     examineAll examinePattern passing examining examine childOperand move oneStep runFrom choicesFrom standing laidFrames frameTable following follow
 samples = record {
@@ -167,6 +187,20 @@ samples = record {
   int64-low-byte-first = refl;
   int64-below-0 = refl;
   int64-lowest = refl;
+  getidx0-last = refl;
+  getidx0-high = refl;
+  ssend0-last = refl;
+  ssend0-high = refl;
+  send0-last = refl;
+  send0-high = refl;
+  tdef-last = refl;
+  tdef-symbol-high = refl;
+  tdef-child-high = refl;
+  sdef-child-high = refl;
+  blkcall-any = refl;
+  addilv-any = refl;
+  tdef-enters = refl;
+  sdef-enters = refl;
   packed-two = refl;
   packed-most = refl;
   packed-dropped = refl;

@@ -3,33 +3,32 @@
 use Prim.Native.Nat.{ℕ, _+_, _-_, _*_, _≤_, _<_}
 use native.Mathlib.Omega.{arith}
 use mathlib.Core.Path.{_≡_, refl, sym, ap, _∙_, subst}
-use mathlib.Core.Bool.{Bool, true, false, _&&_, _||_, not}
+use mathlib.Core.Bool.{Bool, true, false, cond}
 use mathlib.Core.Option.{Option, none, some}
-use mathlib.Core.List.{List, [], _∷_}
-use lib.Dec.{T, eqb, leb, eqb→eq, leb→le}
-use lib.ListN.{length, getD, take, drop}
-use borrow.Author.Tests.{lt-ltb, le-ltb}
+use mathlib.Core.List.{List, []}
+use lib.Dec.{T, eqb}
+use lib.ListN.{length, take, drop}
+use borrow.Author.Tests.{lt-ltb, le-ltb, ne-eqb}
 use Rattle.format.specs.Bytes.{byte, u16At}
-use Rattle.format.specs.Insn.{Role, reg, pool, sym as symbol, child, plain, Flow, on, ends, jumps, may, Row, fields, width, kind, roles, flow, table}
-use Rattle.format.specs.Insn.{row, operand, operands, opcode, rowAt, operandsAt, rest, next, target}
+use Rattle.format.specs.Insn.{Flow, on, ends, jumps, may, roles, flow, opcode, rowAt, operandsAt, rest, next, target}
 use Rattle.format.specs.Lookup.{word}
 use Rattle.format.specs.Pattern.{Record, begins, lands}
 use Rattle.format.specs.Exam.{leads, hasTarget, follows}
-use Rattle.format.specs.Run.{Choice, go-on, jump, enter, leave, caught, childOperand, Move, gone, to, into, goes, jumped, move}
-use Rattle.format.proofs.Table.{both, by-test}
+use Rattle.format.specs.Run.{Choice, go-on, jump, enter, leave, caught, isChild, childOperand, Move, gone, to, into, goes, jumped, move}
+use Rattle.format.proofs.Table.{both}
 use Rattle.format.proofs.RowsFrom.{rowsFrom-length, rowsFrom-at}
 use Rattle.runs.specs.Stack.{Stands, Jumps}
 use Rattle.runs.proofs.Begins.{reach-inside}
+use Rattle.runs.proofs.Operands.{role-inside, roleIn, child-numbers, child-bytes}
 use Rattle.runs.proofs.Jumps as laws
 use Rattle.runs.proofs.Jumps.{readable-whole}
 use Rattle.opcode.specs.declared.OpRow.{OpRow}
-use Rattle.opcode.specs.declared.Role as insn-role
 use Rattle.opcode.specs.declared.Flow as insn-flow
-use Rattle.opcode.specs.Rows.{RowView, rowOf, opRow, roleOf, flowOf}
+use Rattle.opcode.specs.Rows.{RowView, rowOf, opRow, flowOf}
 use Rattle.exam.specs.View.{codeAt, targetAt, targets}
 use Rattle.moves.specs.declared.Choice as moves
 use Rattle.moves.specs.declared.Choice.the-variants.{GoOn, Jump, Enter, Caught, Leave}
-use Rattle.moves.specs.Answers.{choiceOf}
+use Rattle.moves.specs.Answers.{choiceOf, childAmong}
 use Rattle.moves.specs.Part.{part, partAt}
 
 -- a move sees a record's instruction bytes and handlers alone
@@ -97,114 +96,43 @@ module _ (c : List ℕ) (o : ℕ) (r : OpRow) (e : rowOf r ≡ opRow (byte c o))
       → m ≡ move (part c []) o go-on → m ≡ move (part c []) o jump
   jump-on k g = g ∙ sym on-is ∙ k ∙ jump-is
 
--- a child operand is the second byte behind the opcode: one test of the table
-isChild : Role → Bool
-isChild reg = false
-isChild pool = false
-isChild symbol = false
-isChild child = true
-isChild plain = false
+-- the child operand by its number, counted from 1
+abbrev childBy : List ℕ → ℕ → ℕ → Option ℕ
+childBy c o n = cond (eqb n 0) none (some (byte c (o + n)))
 
-noChild : List Role → Bool
-noChild [] = true
-noChild (x ∷ xs) = not (isChild x) && noChild xs
+child-is : (c : List ℕ) (o : ℕ) → childOperand (roles (rowAt c o)) (operandsAt c o) ≡ childBy c o (childAmong (opRow (byte c o)))
+unfolding opcode
+child-is c o = child-bytes c o ∙ go (isChild (roleIn c o 1)) (isChild (roleIn c o 2))
+  where
+    go : (y z : Bool) → cond y (some (byte c (o + 2))) (cond z (some (byte c (o + 3))) none) ≡ childBy c o (cond y 2 (cond z 3 0))
+    go true z = refl
+    go false true = refl
+    go false false = refl
 
--- the child that an operand v of a role numbers
-unfoldable pub childIs : Role → ℕ → Option ℕ
-childIs reg v = none
-childIs pool v = none
-childIs symbol v = none
-childIs child v = some v
-childIs plain v = none
-
-secondChild : List Role → List ℕ → Bool
-secondChild [] ws = true
-secondChild (x ∷ []) ws = not (isChild x)
-secondChild (x ∷ y ∷ xs) [] = false
-secondChild (x ∷ y ∷ xs) (w ∷ []) = false
-secondChild (x ∷ y ∷ xs) (w ∷ v ∷ ws) = not (isChild x) && (not (isChild y) || eqb w 1 && eqb v 1) && noChild xs
-
-child-test : Row → Bool
-child-test r = secondChild (roles r) (fields (kind r)) && (not (isChild (getD (roles r) 1 plain)) || leb 2 (width (kind r)))
-
-child-all : (b : ℕ) → T (child-test (row b))
-unfolding child-test secondChild isChild noChild table row
-child-all b = by-test child-test tt b
-
-none-child : (xs : List Role) (vs : List ℕ) → T (noChild xs) → childOperand xs vs ≡ none
-unfolding noChild isChild childOperand
-none-child [] vs t = refl
-none-child (x ∷ xs) [] t = refl
-none-child (reg ∷ xs) (v ∷ vs) t = none-child xs vs t
-none-child (pool ∷ xs) (v ∷ vs) t = none-child xs vs t
-none-child (symbol ∷ xs) (v ∷ vs) t = none-child xs vs t
-none-child (child ∷ xs) (v ∷ vs) t = absurd t
-none-child (plain ∷ xs) (v ∷ vs) t = none-child xs vs t
-
-skip : (x : Role) (xs : List Role) (v : ℕ) (vs : List ℕ) → T (not (isChild x)) → childOperand (x ∷ xs) (v ∷ vs) ≡ childOperand xs vs
-unfolding isChild childOperand
-skip reg xs v vs t = refl
-skip pool xs v vs t = refl
-skip symbol xs v vs t = refl
-skip child xs v vs t = absurd t
-skip plain xs v vs t = refl
-
-pick : (y : Role) (xs : List Role) (w v : ℕ) (c : List ℕ) (i : ℕ) (vs : List ℕ) → T (not (isChild y) || eqb w 1 && eqb v 1) → T (noChild xs)
-    → childOperand (y ∷ xs) (operand v c (i + w) ∷ vs) ≡ childIs y (byte c (i + 1))
-unfolding isChild childOperand childIs
-pick reg xs w v c i vs t n = none-child xs vs n
-pick pool xs w v c i vs t n = none-child xs vs n
-pick symbol xs w v c i vs t n = none-child xs vs n
-pick child xs w v c i vs t n = rw (eqb→eq w 1 (search both), eqb→eq v 1 (search both))
-pick plain xs w v c i vs t n = none-child xs vs n
-
-child-second : (xs : List Role) (ws : List ℕ) (c : List ℕ) (i : ℕ) → T (secondChild xs ws)
-    → childOperand xs (operands ws c i) ≡ childIs (getD xs 1 plain) (byte c (i + 1))
-unfolding secondChild operands childOperand childIs
-child-second [] ws c i t = refl
-child-second (x ∷ []) [] c i t = refl
-child-second (x ∷ []) (w ∷ ws) c i t = skip x [] (operand w c i) (operands ws c (i + w)) t
-child-second (x ∷ y ∷ xs) [] c i t = absurd t
-child-second (x ∷ y ∷ xs) (w ∷ []) c i t = absurd t
-child-second (x ∷ y ∷ xs) (w ∷ v ∷ ws) c i t =
-    skip x (y ∷ xs) (operand w c i) (operand v c (i + w) ∷ operands ws c (i + w + v)) (search both)
-    ∙ pick y xs w v c i (operands ws c (i + w + v)) (search both) (search both)
-
-if-child : (x : Role) (b : Bool) → x ≡ child → T (not (isChild x) || b) → T b
-unfolding isChild
-if-child x b e t = rw e at t
-
-child-is : (c : List ℕ) (o : ℕ) → childOperand (roles (rowAt c o)) (operandsAt c o) ≡ childIs (getD (roles (rowAt c o)) 1 plain) (byte c (o + 2))
-unfolding child-test
-child-is c o =
-    let q : o + 1 + 1 ≡ o + 2 = omega arith in
-    let t : T (child-test (rowAt c o)) = child-all (opcode c o) in
-    rw q at (child-second (roles (rowAt c o)) (fields (kind (rowAt c o))) c (o + 1) (search both))
-
--- r: the row that the code looked up; x: its second operand's role
-module _ (c : List ℕ) (o : ℕ) (r : OpRow) (e : rowOf r ≡ opRow (byte c o)) {x : insn-role.Role} (q : r .second ≡ x) where
-  second-is : getD (roles (rowAt c o)) 1 plain ≡ roleOf x
-  unfolding opcode
-  second-is = sym (ap (λ (v : RowView). v .second) e) ∙ ap roleOf q
-
-  -- the child's number stands inside the instruction
-  pub child-inside : roleOf x ≡ child → Stands c o → o + 2 < length c
-  unfolding child-test rest opcode
-  child-inside h s =
-      let t : T (child-test (rowAt c o)) = child-all (opcode c o) in
-      let w = width (kind (rowAt c o)) in
-      let l = leb→le 2 w (if-child (getD (roles (rowAt c o)) 1 plain) (leb 2 w) (second-is ∙ h) (search both)) in
-      omega (arith, readable-whole c o (s .reads))
-
-  -- 2
-  pub enter-is : {k n : ℕ} → roleOf x ≡ child → k ≡ byte c (o + 2) → n ≡ next c o → into k n ≡ move (part c []) o enter
-  unfolding move childIs
-  enter-is h ek en = rw (child-is c o, second-is, h, ek, en)
-
-  -- where there is no child operand
-  pub enter-on : {m : Move} → childIs (roleOf x) (byte c (o + 2)) ≡ none → m ≡ move (part c []) o go-on → m ≡ move (part c []) o enter
+-- n: the child operand that the code found
+module _ (c : List ℕ) (o n : ℕ) (e : n ≡ childAmong (opRow (byte c o))) where
+  -- where there is none
+  pub enter-on : {m : Move} → n ≡ 0 → m ≡ move (part c []) o go-on → m ≡ move (part c []) o enter
   unfolding move
-  enter-on k g = g ∙ rw (child-is c o, second-is, k)
+  enter-on z g = g ∙ rw (child-is c o, ← e, z)
+
+  module _ (z : n ≡ 0 → ⊥) where
+    -- the child's number stands inside the instruction
+    pub child-inside : Stands c o → o + n < length c
+    unfolding rest opcode
+    child-inside s = go (isChild (roleIn c o 1)) (isChild (roleIn c o 2)) refl refl e
+      where
+        go : (y q : Bool) → isChild (roleIn c o 1) ≡ y → isChild (roleIn c o 2) ≡ q → n ≡ cond y 2 (cond q 3 0) → o + n < length c
+        go true q ey eq en =
+            omega (arith, readable-whole c o (s .reads), role-inside (byte c o) 1 (child-numbers (roleIn c o 1) ey))
+        go false true ey eq en =
+            omega (arith, readable-whole c o (s .reads), role-inside (byte c o) 2 (child-numbers (roleIn c o 2) eq))
+        go false false ey eq en = absurd (z en)
+
+    -- 2
+    pub enter-is : {k m : ℕ} → k ≡ byte c (o + n) → m ≡ next c o → into k m ≡ move (part c []) o enter
+    unfolding move
+    enter-is ek em = rw (child-is c o, ← e, ne-eqb n 0 z, ek, em)
 
 module _ (c hs : List ℕ) (o first number : ℕ) where
   count : length (targets hs first number) ≡ number

@@ -2,10 +2,12 @@
 -- Assumes nothing.
 use Prim.Native.Nat.{ℕ, _≤_, _<_}
 use mathlib.Core.Path.{_≡_}
+use mathlib.Core.Bool.{cond}
 use mathlib.Core.List.{List}
 use lib.ListN.{length, drop}
 use Rattle.format.specs.Bytes.{refused}
 use Rattle.format.specs.Run as format
+use Rattle.opcode.specs.Rows.{RowView}
 use Rattle.moves.specs.declared.Choice.{Choice}
 use Rattle.moves.specs.declared.Choice.the-variants as choice
 use Rattle.moves.specs.declared.Read.{Read}
@@ -24,6 +26,10 @@ abbrev pub moveOf : Moved → format.Move
 moveOf moved.Gone = format.gone
 moveOf (moved.To o) = format.to o
 moveOf (moved.Into k o) = format.into k o
+
+-- which operand of an opcode numbers a child: 2 for the second, 3 for the third, 0 where none does
+abbrev pub childAmong : RowView → ℕ
+childAmong v = cond (format.isChild (v .second)) 2 (cond (format.isChild (v .third)) 3 0)
 
 -- the choice c stands at place i of the bytes, and j is the place after it
 pub record NextIs (bs : List ℕ) (i : ℕ) (c : Choice) (j : ℕ) : Type 0 where

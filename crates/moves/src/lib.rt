@@ -1,6 +1,7 @@
 // The choices of a run, and what each does to the top frame.
 use exam::word;
 use opcode::Flow;
+use opcode::OpRow;
 use opcode::Role;
 use opcode::op_row;
 use opcode::size;
@@ -13,8 +14,9 @@ ghost use Rattle.format.specs.Lookup as table;
 ghost use Rattle.format.specs.Tree.{childOf};
 ghost use Rattle.format.specs.Run as format;
 ghost use Rattle.runs.specs.Stack.{Stands, Jumps};
+ghost use Rattle.opcode.specs.Rows.{roleOf, rowOf};
 ghost use Rattle.exam.specs.View.{targets, codeAt, rlensAt};
-ghost use Rattle.moves.specs.Answers.{choiceOf, moveOf, ReadAt};
+ghost use Rattle.moves.specs.Answers.{choiceOf, moveOf, childAmong, ReadAt};
 ghost use Rattle.moves.specs.Part.{part, partAt};
 
 // A choice. Caught has the handler's number.
@@ -144,24 +146,45 @@ fn jump(code: &[u8], o: usize) -> Moved
     }
 }
 
-// Choice 2: at an opcode with a child operand, which is its second, the child is entered.
+fn is_child(role: Role) -> bool
+    ensures { λ r. ⌜ r ≡ format.isChild (roleOf role) ⌝ }
+{
+    match role {
+        Role::Plain => false,
+        Role::Reg => false,
+        Role::Pool => false,
+        Role::Sym => false,
+        Role::Child => true,
+    }
+}
+
+// Which operand numbers a child: 2 for the second, 3 for the third, 0 where none does.
+fn child_operand(op: OpRow) -> usize
+    ensures { λ r. ⌜ r ≡ childAmong (rowOf op) ⌝ }
+{
+    let second = op.second;
+    if is_child(second) {
+        return 2;
+    }
+    let third = op.third;
+    if is_child(third) {
+        return 3;
+    }
+    0
+}
+
+// Choice 2: at an opcode with a child operand the child is entered.
 fn enter(code: &[u8], o: usize) -> Moved
     requires { ⌜ Stands (now code) o ⌝ }
     ensures { λ m. ⌜ moveOf m ≡ format.move (part (now (code .entry)) []) o format.enter ⌝ }
 {
-    let op = op_row(code[o]);
-    let second = op.second;
-    match second {
-        Role::Child => {
-            let child = wide(code[o + 2]);
-            let offset = next_offset(code, o);
-            Moved::Into { child, offset }
-        }
-        Role::Reg => go_on(code, o),
-        Role::Pool => go_on(code, o),
-        Role::Sym => go_on(code, o),
-        Role::Plain => go_on(code, o),
+    let n = child_operand(op_row(code[o]));
+    if n == 0 {
+        return go_on(code, o);
     }
+    let child = wide(code[o + n]);
+    let offset = next_offset(code, o);
+    Moved::Into { child, offset }
 }
 
 // Choice 3: handler `h` of the record's `number`, which stand from row `first` on, has its target taken.

@@ -2,19 +2,23 @@
 pub use opcode_kind::Kind;
 ghost use mathlib.Core.Path.{_≡_};
 ghost use Rattle.format.specs.Insn as format;
-ghost use Rattle.opcode.specs.Rows.{rowOf, shapeOf, opRow};
+ghost use Rattle.opcode.specs.Digits.{roleAt, kindAt, flowAt, digitsOf};
+ghost use Rattle.opcode.specs.Rows.{roleOf, flowOf, rowOf, opRow};
+ghost use Rattle.opcode_kind.specs.Kinds.{kindOf};
 
 pub mod names;
+pub mod parts;
 
 use names::*;
+use parts::*;
 
 // What an operand numbers.
 pub enum Role {
+    Plain,
     Reg,
     Pool,
     Sym,
     Child,
-    Plain,
 }
 
 // Where a run goes on: to the next offset; nowhere; to the jump target; to the next offset or the jump target.
@@ -25,176 +29,258 @@ pub enum Flow {
     May,
 }
 
-// Operand kind of an opcode, roles of its first two operands, and where a run goes on. An operand that it lacks is plain.
+// Operand kind of an opcode, roles of its operands, and where a run goes on. An operand that it lacks is plain.
 pub struct OpRow {
     pub kind: Kind,
     pub first: Role,
     pub second: Role,
+    pub third: Role,
     pub flow: Flow,
 }
 
-// The rows that occur, by operand kind, roles that are not plain, and where a run goes on if not to the next offset.
-enum Shape {
-    Z,
-    ZEnds,
-    BReg,
-    BRegEnds,
-    BPoolEnds,
-    BSym,
-    BbRegReg,
-    BbRegPool,
-    BbRegSym,
-    BbRegChild,
-    BbReg,
-    BbSymSym,
-    BbbRegReg,
-    BbbRegSym,
-    BbbReg,
-    BbbPlain,
-    BsReg,
-    BsRegMay,
-    BssReg,
-    SJumps,
-    W,
-}
+// Operand kinds, each with the size of its instructions.
+const Z: usize = 1;
 
-// The shape of an opcode's row. A byte above 118 has that of NOP.
-fn shape_of(b: u8) -> Shape
-    ensures { λ r. ⌜ shapeOf r ≡ opRow b ⌝ }
+const B: usize = KIND + 2;
+
+const BB: usize = 2 * KIND + 3;
+
+const BBB: usize = 3 * KIND + 4;
+
+const BS: usize = 4 * KIND + 4;
+
+const BSS: usize = 5 * KIND + 6;
+
+const S: usize = 6 * KIND + 3;
+
+const W: usize = 7 * KIND + 4;
+
+// Where a run goes on, as the flags of an instruction that goes there.
+const ON: usize = PASSES * INSIDE + PAST * LAST;
+
+const ENDS: usize = PASSES * INSIDE + PASSES * LAST;
+
+const JUMPS: usize = TARGET * INSIDE + TARGET * LAST;
+
+const MAY: usize = TARGET * INSIDE + PAST * LAST;
+
+// The digits that occur, by operand kind, roles that are not plain, and where a run goes on if not to the next offset.
+const Z_ON: usize = Z + ON;
+
+const Z_ENDS: usize = Z + ENDS;
+
+const B_REG: usize = B + REG * FIRST + ON;
+
+const B_REG_ENDS: usize = B + REG * FIRST + ENDS;
+
+const B_POOL_ENDS: usize = B + POOL * FIRST + ENDS;
+
+const B_SYM: usize = B + SYM * FIRST + ON;
+
+const BB_REG: usize = BB + REG * FIRST + ON;
+
+const BB_REG_REG: usize = BB_REG + REG * SECOND;
+
+const BB_REG_POOL: usize = BB_REG + POOL * SECOND;
+
+const BB_REG_SYM: usize = BB_REG + SYM * SECOND;
+
+const BB_REG_CHILD: usize = BB_REG + CHILD * SECOND;
+
+const BB_SYM_SYM: usize = BB + SYM * FIRST + SYM * SECOND + ON;
+
+const BBB_ON: usize = BBB + ON;
+
+const BBB_REG: usize = BBB + REG * FIRST + ON;
+
+const BBB_REG_REG: usize = BBB_REG + REG * SECOND;
+
+const BBB_REG_SYM: usize = BBB_REG + SYM * SECOND;
+
+const BBB_REG_SYM_CHILD: usize = BBB_REG_SYM + CHILD * THIRD;
+
+const BS_REG: usize = BS + REG * FIRST + ON;
+
+const BS_REG_MAY: usize = BS + REG * FIRST + MAY;
+
+const BSS_REG: usize = BSS + REG * FIRST + ON;
+
+const S_JUMPS: usize = S + JUMPS;
+
+const W_ON: usize = W + ON;
+
+// A prefix opcode and a byte above 118 begin no instruction: NOP's row without a size.
+const NO_SIZE: usize = ON;
+
+// The digits of an opcode byte. Its size is 0 where it begins no instruction.
+pub fn digits(b: u8) -> usize
+    ensures { λ r. ⌜ r ≡ digitsOf b ⌝ }
 {
     match b {
-        NOP => Shape::Z,
-        MOVE => Shape::BbRegReg,
-        LOADL => Shape::BbRegPool,
-        LOADI => Shape::BbReg,
-        LOADINEG => Shape::BbReg,
-        LOADI__1 => Shape::BReg,
-        LOADI_0 => Shape::BReg,
-        LOADI_1 => Shape::BReg,
-        LOADI_2 => Shape::BReg,
-        LOADI_3 => Shape::BReg,
-        LOADI_4 => Shape::BReg,
-        LOADI_5 => Shape::BReg,
-        LOADI_6 => Shape::BReg,
-        LOADI_7 => Shape::BReg,
-        LOADI16 => Shape::BsReg,
-        LOADI32 => Shape::BssReg,
-        LOADSYM => Shape::BbRegSym,
-        LOADNIL => Shape::BReg,
-        LOADSELF => Shape::BReg,
-        LOADT => Shape::BReg,
-        LOADF => Shape::BReg,
-        GETGV => Shape::BbRegSym,
-        SETGV => Shape::BbRegSym,
-        GETSV => Shape::BbRegSym,
-        SETSV => Shape::BbRegSym,
-        GETIV => Shape::BbRegSym,
-        SETIV => Shape::BbRegSym,
-        GETCV => Shape::BbRegSym,
-        SETCV => Shape::BbRegSym,
-        GETCONST => Shape::BbRegSym,
-        SETCONST => Shape::BbRegSym,
-        GETMCNST => Shape::BbRegSym,
-        SETMCNST => Shape::BbRegSym,
-        GETUPVAR => Shape::BbbReg,
-        SETUPVAR => Shape::BbbReg,
-        GETIDX => Shape::BReg,
-        GETIDX0 => Shape::BbReg,
-        SETIDX => Shape::BReg,
-        JMP => Shape::SJumps,
-        JMPIF => Shape::BsRegMay,
-        JMPNOT => Shape::BsRegMay,
-        JMPNIL => Shape::BsRegMay,
-        JMPUW => Shape::SJumps,
-        EXCEPT => Shape::BReg,
-        RESCUE => Shape::BbRegReg,
-        RAISEIF => Shape::BReg,
-        MATCHERR => Shape::BReg,
-        SSEND => Shape::BbbRegSym,
-        SSEND0 => Shape::BbReg,
-        SSENDB => Shape::BbbRegSym,
-        SEND => Shape::BbbRegSym,
-        SEND0 => Shape::BbReg,
-        SENDB => Shape::BbbRegSym,
-        CALL => Shape::ZEnds,
-        BLKCALL => Shape::BbReg,
-        SUPER => Shape::BbReg,
-        ARGARY => Shape::BsReg,
-        ENTER => Shape::W,
-        KEY_P => Shape::BbRegSym,
-        KEYEND => Shape::Z,
-        KARG => Shape::BbRegSym,
-        RETURN => Shape::BRegEnds,
-        RETURN_BLK => Shape::BRegEnds,
-        RETSELF => Shape::ZEnds,
-        RETNIL => Shape::ZEnds,
-        RETTRUE => Shape::ZEnds,
-        RETFALSE => Shape::ZEnds,
-        BREAK => Shape::BRegEnds,
-        BLKPUSH => Shape::BsReg,
-        ADD => Shape::BReg,
-        ADDI => Shape::BbReg,
-        SUB => Shape::BReg,
-        SUBI => Shape::BbReg,
-        ADDILV => Shape::BbbReg,
-        SUBILV => Shape::BbbReg,
-        MUL => Shape::BReg,
-        DIV => Shape::BReg,
-        EQ => Shape::BReg,
-        LT => Shape::BReg,
-        LE => Shape::BReg,
-        GT => Shape::BReg,
-        GE => Shape::BReg,
-        ARRAY => Shape::BbReg,
-        ARRAY2 => Shape::BbbRegReg,
-        ARYCAT => Shape::BReg,
-        ARYPUSH => Shape::BbReg,
-        ARYSPLAT => Shape::BReg,
-        AREF => Shape::BbbRegReg,
-        ASET => Shape::BbbRegReg,
-        APOST => Shape::BbbReg,
-        INTERN => Shape::BReg,
-        SYMBOL => Shape::BbRegPool,
-        STRING => Shape::BbRegPool,
-        STRCAT => Shape::BReg,
-        HASH => Shape::BbReg,
-        HASHADD => Shape::BbReg,
-        HASHCAT => Shape::BReg,
-        LAMBDA => Shape::BbRegChild,
-        BLOCK => Shape::BbRegChild,
-        METHOD => Shape::BbRegChild,
-        RANGE_INC => Shape::BReg,
-        RANGE_EXC => Shape::BReg,
-        OCLASS => Shape::BReg,
-        CLASS => Shape::BbRegSym,
-        MODULE => Shape::BbRegSym,
-        EXEC => Shape::BbRegChild,
-        DEF => Shape::BbRegSym,
-        TDEF => Shape::BbbReg,
-        SDEF => Shape::BbbReg,
-        ALIAS => Shape::BbSymSym,
-        UNDEF => Shape::BSym,
-        SCLASS => Shape::BReg,
-        TCLASS => Shape::BReg,
-        DEBUG => Shape::BbbPlain,
-        ERR => Shape::BPoolEnds,
-        EXT1 => Shape::Z,
-        EXT2 => Shape::Z,
-        EXT3 => Shape::Z,
-        STOP => Shape::ZEnds,
-        _ => Shape::Z,
+        NOP => Z_ON,
+        MOVE => BB_REG_REG,
+        LOADL => BB_REG_POOL,
+        LOADI => BB_REG,
+        LOADINEG => BB_REG,
+        LOADI__1 => B_REG,
+        LOADI_0 => B_REG,
+        LOADI_1 => B_REG,
+        LOADI_2 => B_REG,
+        LOADI_3 => B_REG,
+        LOADI_4 => B_REG,
+        LOADI_5 => B_REG,
+        LOADI_6 => B_REG,
+        LOADI_7 => B_REG,
+        LOADI16 => BS_REG,
+        LOADI32 => BSS_REG,
+        LOADSYM => BB_REG_SYM,
+        LOADNIL => B_REG,
+        LOADSELF => B_REG,
+        LOADT => B_REG,
+        LOADF => B_REG,
+        GETGV => BB_REG_SYM,
+        SETGV => BB_REG_SYM,
+        GETSV => BB_REG_SYM,
+        SETSV => BB_REG_SYM,
+        GETIV => BB_REG_SYM,
+        SETIV => BB_REG_SYM,
+        GETCV => BB_REG_SYM,
+        SETCV => BB_REG_SYM,
+        GETCONST => BB_REG_SYM,
+        SETCONST => BB_REG_SYM,
+        GETMCNST => BB_REG_SYM,
+        SETMCNST => BB_REG_SYM,
+        GETUPVAR => BBB_REG,
+        SETUPVAR => BBB_REG,
+        GETIDX => B_REG,
+        GETIDX0 => BB_REG_REG,
+        SETIDX => B_REG,
+        JMP => S_JUMPS,
+        JMPIF => BS_REG_MAY,
+        JMPNOT => BS_REG_MAY,
+        JMPNIL => BS_REG_MAY,
+        JMPUW => S_JUMPS,
+        EXCEPT => B_REG,
+        RESCUE => BB_REG_REG,
+        RAISEIF => B_REG,
+        MATCHERR => B_REG,
+        SSEND => BBB_REG_SYM,
+        SSEND0 => BB_REG_SYM,
+        SSENDB => BBB_REG_SYM,
+        SEND => BBB_REG_SYM,
+        SEND0 => BB_REG_SYM,
+        SENDB => BBB_REG_SYM,
+        CALL => Z_ENDS,
+        BLKCALL => BB_REG,
+        SUPER => BB_REG,
+        ARGARY => BS_REG,
+        ENTER => W_ON,
+        KEY_P => BB_REG_SYM,
+        KEYEND => Z_ON,
+        KARG => BB_REG_SYM,
+        RETURN => B_REG_ENDS,
+        RETURN_BLK => B_REG_ENDS,
+        RETSELF => Z_ENDS,
+        RETNIL => Z_ENDS,
+        RETTRUE => Z_ENDS,
+        RETFALSE => Z_ENDS,
+        BREAK => B_REG_ENDS,
+        BLKPUSH => BS_REG,
+        ADD => B_REG,
+        ADDI => BB_REG,
+        SUB => B_REG,
+        SUBI => BB_REG,
+        ADDILV => BBB_REG,
+        SUBILV => BBB_REG,
+        MUL => B_REG,
+        DIV => B_REG,
+        EQ => B_REG,
+        LT => B_REG,
+        LE => B_REG,
+        GT => B_REG,
+        GE => B_REG,
+        ARRAY => BB_REG,
+        ARRAY2 => BBB_REG_REG,
+        ARYCAT => B_REG,
+        ARYPUSH => BB_REG,
+        ARYSPLAT => B_REG,
+        AREF => BBB_REG_REG,
+        ASET => BBB_REG_REG,
+        APOST => BBB_REG,
+        INTERN => B_REG,
+        SYMBOL => BB_REG_POOL,
+        STRING => BB_REG_POOL,
+        STRCAT => B_REG,
+        HASH => BB_REG,
+        HASHADD => BB_REG,
+        HASHCAT => B_REG,
+        LAMBDA => BB_REG_CHILD,
+        BLOCK => BB_REG_CHILD,
+        METHOD => BB_REG_CHILD,
+        RANGE_INC => B_REG,
+        RANGE_EXC => B_REG,
+        OCLASS => B_REG,
+        CLASS => BB_REG_SYM,
+        MODULE => BB_REG_SYM,
+        EXEC => BB_REG_CHILD,
+        DEF => BB_REG_SYM,
+        TDEF => BBB_REG_SYM_CHILD,
+        SDEF => BBB_REG_SYM_CHILD,
+        ALIAS => BB_SYM_SYM,
+        UNDEF => B_SYM,
+        SCLASS => B_REG,
+        TCLASS => B_REG,
+        DEBUG => BBB_ON,
+        ERR => B_POOL_ENDS,
+        EXT1 => NO_SIZE,
+        EXT2 => NO_SIZE,
+        EXT3 => NO_SIZE,
+        STOP => Z_ENDS,
+        _ => NO_SIZE,
     }
 }
 
-// A row of these four.
-fn row(kind: Kind, first: Role, second: Role, flow: Flow) -> OpRow
-    ensures { λ r. ⌜ r ≡ record { kind = kind; first = first; second = second; flow = flow } ⌝ }
+// The role of this number.
+fn role_of(n: usize) -> Role
+    ensures { λ r. ⌜ roleOf r ≡ roleAt n ⌝ }
 {
-    OpRow {
-        kind,
-        first,
-        second,
-        flow,
+    match n {
+        PLAIN => Role::Plain,
+        REG => Role::Reg,
+        POOL => Role::Pool,
+        SYM => Role::Sym,
+        CHILD => Role::Child,
+        _ => Role::Plain,
+    }
+}
+
+// The operand kind of this number.
+fn kind_of(n: usize) -> Kind
+    ensures { λ r. ⌜ kindOf r ≡ kindAt n ⌝ }
+{
+    match n {
+        0 => Kind::Z,
+        1 => Kind::B,
+        2 => Kind::BB,
+        3 => Kind::BBB,
+        4 => Kind::BS,
+        5 => Kind::BSS,
+        6 => Kind::S,
+        _ => Kind::W,
+    }
+}
+
+// Where a run goes on, by the flags inside a record and at its end.
+fn flow_of(inside: usize, last: usize) -> Flow
+    ensures { λ r. ⌜ flowOf r ≡ flowAt inside last ⌝ }
+{
+    match last {
+        PASSES => Flow::Ends,
+        TARGET => Flow::Jumps,
+        _ => match inside {
+            PASSES => Flow::On,
+            _ => Flow::May,
+        },
     }
 }
 
@@ -202,28 +288,18 @@ fn row(kind: Kind, first: Role, second: Role, flow: Flow) -> OpRow
 pub fn op_row(b: u8) -> OpRow
     ensures { λ r. ⌜ rowOf r ≡ opRow b ⌝ }
 {
-    match shape_of(b) {
-        Shape::Z => row(Kind::Z, Role::Plain, Role::Plain, Flow::On),
-        Shape::ZEnds => row(Kind::Z, Role::Plain, Role::Plain, Flow::Ends),
-        Shape::BReg => row(Kind::B, Role::Reg, Role::Plain, Flow::On),
-        Shape::BRegEnds => row(Kind::B, Role::Reg, Role::Plain, Flow::Ends),
-        Shape::BPoolEnds => row(Kind::B, Role::Pool, Role::Plain, Flow::Ends),
-        Shape::BSym => row(Kind::B, Role::Sym, Role::Plain, Flow::On),
-        Shape::BbRegReg => row(Kind::BB, Role::Reg, Role::Reg, Flow::On),
-        Shape::BbRegPool => row(Kind::BB, Role::Reg, Role::Pool, Flow::On),
-        Shape::BbRegSym => row(Kind::BB, Role::Reg, Role::Sym, Flow::On),
-        Shape::BbRegChild => row(Kind::BB, Role::Reg, Role::Child, Flow::On),
-        Shape::BbReg => row(Kind::BB, Role::Reg, Role::Plain, Flow::On),
-        Shape::BbSymSym => row(Kind::BB, Role::Sym, Role::Sym, Flow::On),
-        Shape::BbbRegReg => row(Kind::BBB, Role::Reg, Role::Reg, Flow::On),
-        Shape::BbbRegSym => row(Kind::BBB, Role::Reg, Role::Sym, Flow::On),
-        Shape::BbbReg => row(Kind::BBB, Role::Reg, Role::Plain, Flow::On),
-        Shape::BbbPlain => row(Kind::BBB, Role::Plain, Role::Plain, Flow::On),
-        Shape::BsReg => row(Kind::BS, Role::Reg, Role::Plain, Flow::On),
-        Shape::BsRegMay => row(Kind::BS, Role::Reg, Role::Plain, Flow::May),
-        Shape::BssReg => row(Kind::BSS, Role::Reg, Role::Plain, Flow::On),
-        Shape::SJumps => row(Kind::S, Role::Plain, Role::Plain, Flow::Jumps),
-        Shape::W => row(Kind::W, Role::Plain, Role::Plain, Flow::On),
+    let d = digits(b);
+    let kind = kind_of(d / KIND % BASE);
+    let first = role_of(d / FIRST % BASE);
+    let second = role_of(d / SECOND % BASE);
+    let third = role_of(d / THIRD % BASE);
+    let flow = flow_of(d / INSIDE % BASE, d / LAST % BASE);
+    OpRow {
+        kind,
+        first,
+        second,
+        third,
+        flow,
     }
 }
 

@@ -3,6 +3,7 @@ pub mod Tests
 pub mod Line
 pub mod Table
 pub mod Roles
+pub mod Operands
 pub mod Begins
 pub mod Exact
 pub mod Safe

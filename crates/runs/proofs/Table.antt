@@ -10,7 +10,7 @@ use lib.Dec.{T}
 use lib.ListN.{length, List·getD-eq-default}
 use Rattle.format.specs.Insn.{Kind, Z, B, BB, S, BBB, BS, W, BSS, Role, reg, pool, sym as symbol, child, plain, Flow, on, ends, jumps, may, NOP, Row}
 use Rattle.format.specs.Insn.{op, width, kind, roles, flow, table, row, operands}
-use Rattle.format.specs.Run.{childOperand}
+use Rattle.format.specs.Run.{isChild, childOperand}
 use Rattle.format.proofs.Table.{by-test}
 
 pub operands-length : (ws : List ℕ) (c : List ℕ) (i : ℕ) → length (operands ws c i) ≡ length ws
@@ -19,13 +19,6 @@ operands-length [] c i = refl
 operands-length (w ∷ ws) c i = ap suc (operands-length ws c (i + w))
 
 -- a child opcode goes on to the next offset
-isChild : Role → Bool
-isChild reg = false
-isChild pool = false
-isChild symbol = false
-isChild child = true
-isChild plain = false
-
 anyChild : List Role → Bool
 anyChild [] = false
 anyChild (x ∷ xs) = isChild x || anyChild xs
@@ -40,7 +33,7 @@ child-on-test : Row → Bool
 child-on-test r = not (anyChild (roles r)) || isOn (flow r)
 
 no-child : (xs : List Role) (vs : List ℕ) (k : ℕ) → T (not (anyChild xs)) → childOperand xs vs ≡ some k → ⊥
-unfolding anyChild isChild childOperand
+unfolding anyChild childOperand
 no-child [] vs k t e = let z : _≡_ {A = ℕ} 0 1 = cc in omega arith
 no-child (x ∷ xs) [] k t e = let z : _≡_ {A = ℕ} 0 1 = cc in omega arith
 no-child (reg ∷ xs) (v ∷ vs) k t e = no-child xs vs k t e
@@ -57,7 +50,7 @@ on-only jumps t = absurd t
 on-only may t = absurd t
 
 child-on-all : (b : ℕ) → T (child-on-test (row b))
-unfolding anyChild isChild isOn child-on-test table row
+unfolding anyChild isOn child-on-test table row
 child-on-all b = by-test child-on-test tt b
 
 pub child-on : (b : ℕ) (vs : List ℕ) (k : ℕ) → childOperand (roles (row b)) vs ≡ some k → flow (row b) ≡ on
@@ -67,16 +60,6 @@ child-on b vs k e = go (anyChild (roles (row b))) refl (child-on-all b)
     go : (a : Bool) → anyChild (roles (row b)) ≡ a → T (not a || isOn (flow (row b))) → flow (row b) ≡ on
     go true q t = on-only _ t
     go false q t = absurd (no-child (roles (row b)) vs k (subst (λ (a : Bool). T (not a)) (sym q) tt) e)
-
-pub width-small : (k : Kind) → width k ≤ 5
-width-small Z = omega arith
-width-small B = omega arith
-width-small BB = omega arith
-width-small S = omega arith
-width-small BBB = omega arith
-width-small BS = omega arith
-width-small W = omega arith
-width-small BSS = omega arith
 
 -- a byte above 118 has nothing behind it
 pub width-above : (b : ℕ) → 119 ≤ b → width (kind (row b)) ≡ 0

@@ -15,9 +15,9 @@ use Rattle.format.specs.Exam.{readable, firstAt, at16, at1718, exam16, exam1718
 use Rattle.runs.proofs.Jumps.{readable-whole}
 use Rattle.format.proofs.Answers.{first-zero, refuse-zero}
 use Rattle.runs.proofs.Tests.{firstAt-zero}
-use Rattle.flags.specs.Digits.{digitsOf}
+use Rattle.opcode.specs.Digits.{digitsOf}
 use Rattle.flags.specs.Flags.{bare, flagAt, judged, Flagged, landsFrom}
-use Rattle.flags.proofs.Numbers.{size-digit}
+use Rattle.opcode.proofs.Numbers.{size-is}
 use Rattle.flags.proofs.Goes.{flags-mark, flag-wide, judged-is}
 use Rattle.scan.specs.Scan.{Marks, Coded}
 use Rattle.scan.proofs.First.{first-some}
@@ -102,9 +102,9 @@ module _ {l c flags : List ℕ} (f : Flagged l c flags) {i : ℕ} (h : i < lengt
     reads : T (readable c i)
     reads = passed-16 c e i (subst T (sym (begun p)) tt)
 
-    pub jump-next : {d : ℕ} → d ≡ digitsOf (byte c i) → i + d % 8 ≡ next c i
+    pub jump-next : {d : ℕ} → d ≡ digitsOf (byte c i) → i + d % 64 ≡ next c i
     unfolding rest readable opcode
-    jump-next q = ap (λ (n : ℕ). i + n) (size-digit (byte c i) (known-of (known (byte c i)) (not (prefix (byte c i))) (leb (next c i) (length c)) reads) q)
+    jump-next q = ap (λ (n : ℕ). i + n) (size-is (byte c i) q (known-of (known (byte c i)) (not (prefix (byte c i))) (leb (next c i) (length c)) reads))
 
     pub jump-inside : next c i ≤ length c
     jump-inside = readable-whole c i reads

@@ -16,9 +16,9 @@ use Rattle.format.specs.Insn.{known, prefix, opcode, rest, next}
 use Rattle.format.specs.Pattern.{reach, begins}
 use Rattle.format.specs.Exam.{readable, firstAt, at16, exam16}
 use Rattle.runs.proofs.Loops.{firstAt-turn, firstAt-end, reach-turn, reach-over}
-use Rattle.flags.specs.Digits.{instruction, digitsOf}
+use Rattle.opcode.specs.Digits.{instruction, digitsOf}
 use Rattle.flags.specs.Flags.{bare, Looked, flagAt, toldAt}
-use Rattle.flags.proofs.Numbers.{size-digit, no-digit, some-digit}
+use Rattle.opcode.proofs.Numbers.{size-is, no-size, some-size}
 use Rattle.scan.specs.Scan.{Cleared, Marks}
 
 -- the loop that clears, at the flag i
@@ -80,20 +80,20 @@ module _ {l c : List ℕ} where
     refused z = record { answers = sym (turned ∙ rw z); flagged = λ y. absurd (omega arith) }
 
     module _ (d : ℕ) (e : d ≡ digitsOf (byte c i)) where
-      pub marks-unknown : d % 8 ≡ 0 → Marks l c flags 16
-      marks-unknown z = refused (readable-is c i ∙ rw (← no-digit (byte c i) e z))
+      pub marks-unknown : d % 64 ≡ 0 → Marks l c flags 16
+      marks-unknown z = refused (readable-is c i ∙ rw (← no-size (byte c i) e z))
 
-      module _ (s : d % 8 ≡ 0 → ⊥) where
-        next-is : i + d % 8 ≡ next c i
+      module _ (s : d % 64 ≡ 0 → ⊥) where
+        next-is : i + d % 64 ≡ next c i
         unfolding rest
-        next-is = ap (λ (n : ℕ). i + n) (size-digit (byte c i) (some-digit (byte c i) e s) e)
+        next-is = ap (λ (n : ℕ). i + n) (size-is (byte c i) e (some-size (byte c i) e s))
 
-        pub marks-cut : length c - i < d % 8 → Marks l c flags 16
+        pub marks-cut : length c - i < d % 64 → Marks l c flags 16
         marks-cut k = refused (readable-is c i ∙ and-false (instruction (byte c i)) (leb (next c i) (length c)) (lt-leb (next c i) (length c) (omega (arith, next-is))))
 
-        module _ (k : d % 8 ≤ length c - i) where
+        module _ (k : d % 64 ≤ length c - i) where
           pub marking-looked : Looked c i d
-          marking-looked = record { digits = e; read = some-digit (byte c i) e s; whole = omega (arith, next-is) }
+          marking-looked = record { digits = e; read = some-size (byte c i) e s; whole = omega (arith, next-is) }
 
           here : begins c i ≡ true
           unfolding reach
@@ -114,13 +114,13 @@ module _ {l c : List ℕ} where
                 go true z = let y = ltb-true o i z in rw (getD-set-other flags i o v 0 (λ x. omega arith)) (m .upto o y)
                 go false z = at (eq-or-lt-of-le {n = i} {m = o} (ltb-false o i z))
 
-            pub marking-turn : Marking l c (set flags i v) (i + d % 8)
+            pub marking-turn : Marking l c (set flags i v) (i + d % 64)
             marking-turn = rw next-is record {
               room = simp length-set (m .room);
               ahead = λ o g. m .ahead o (omega (arith, next-is)) ∙ reach-turn c i o h (omega (arith, next-is)) g;
               upto = stored;
               clear = λ o g z. rw (getD-set-other flags i o v 0 (λ y. omega (arith, next-is))) (m .clear o (omega (arith, next-is)) z);
-              so = turned ∙ rw (readable-is c i, some-digit (byte c i) e s, le-leb (next c i) (length c) (omega (arith, next-is)));
+              so = turned ∙ rw (readable-is c i, some-size (byte c i) e s, le-leb (next c i) (length c) (omega (arith, next-is)));
             }
 
   pub marking-end : {flags : List ℕ} {i : ℕ} → length c ≤ i → Marking l c flags i → Marks l c flags 0

@@ -14,7 +14,7 @@ use Rattle.format.specs.Insn.{width, kind, row, size, rest}
 use Rattle.format.specs.Pattern.{reach, begins}
 use Rattle.format.specs.Exam.{firstAt}
 use Rattle.format.proofs.Answers.{false-true}
-use Rattle.runs.proofs.Table.{width-small}
+use Rattle.format.proofs.Table.{width-small}
 
 pub record Place (c : List ℕ) (i left : ℕ) : Type 0 where
   pub small : left ≤ 5

@@ -1,7 +1,8 @@
 // Conditions 16 to 18 over the code of a record, with a flag for each byte.
-use flags::digits;
 use flags::flag_at;
 use flags::lands_at;
+use opcode::digits;
+use opcode::parts::SIZE;
 ghost use Prim.Native.Nat.{_≤_};
 ghost use lib.ListN.{length};
 ghost use Rattle.flags.specs.Flags.{Limits};
@@ -32,7 +33,7 @@ fn exam_16(code: &[u8], flags: &mut [u8], limits: &[u32]) -> u8
     let mut i: usize = 0;
     while i < code.len() {
         let d = digits(code[i]);
-        let n = d % 8;
+        let n = d % SIZE;
         if n == 0 {
             return 16;
         }
@@ -67,7 +68,7 @@ pub fn exam_code(code: &[u8], flags: &mut [u8], limits: &[u32]) -> u8
             if v > 3 {
                 return 18;
             }
-            if !lands_at(code, flags, i + digits(code[i]) % 8) {
+            if !lands_at(code, flags, i + digits(code[i]) % SIZE) {
                 return 18;
             }
             i += 1;

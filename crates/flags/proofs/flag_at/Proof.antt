@@ -3,7 +3,7 @@
 use native.Mathlib.Omega.{arith}
 use mathlib.Core.Path.{sym, _∙_}
 use borrow.Author.Tests.{not-true, not-false}
-use Rattle.flags.proofs.Roles.{first-operand, second-operand, flag-first, flag-second, flag-inside, flag-last}
+use Rattle.flags.proofs.Roles.{first-operand, second-operand, third-operand, flag-first, flag-second, flag-third, flag-inside, flag-last}
 use borrow.Author.Needs.{needs}
 use Rattle.flags.proofs.flag_at.Statement.{statement}
 use Rattle.flags.proofs.flag_at.Tie as tie
@@ -12,44 +12,81 @@ add-operand-below : tie.Need-add-operand-below
 add-operand-below c = omega (arith, c .before .before .pre .1 .whole)
 
 operand-below-requires : tie.Need-operand-below-requires
-operand-below-requires c κs = (c .before .before .pre .0, first-operand (c .before .before .pre .1))
+operand-below-requires c κs = let p = c .before .before .pre in (p .0, first-operand (p .1))
 
 returns : tie.Need-returns
-returns c = flag-first (c .before .before .before .before .pre .1) (c .before .before .before .before .args .limits .now) (sym (c .before .operand-below .ensures) ∙ not-true _ (c .if1 .taken))
+returns c =
+    let first = c .before in
+    let start = first .before .before .before in
+    flag-first (start .pre .1) (start .args .limits .now) (sym (first .operand-below .ensures) ∙ not-true _ (c .if1 .taken))
 
 add-operand-below-2 : tie.Need-add-operand-below-2
 add-operand-below-2 c = omega (arith, c .before .before .before .before .pre .1 .whole)
 
 operand-below-requires-2 : tie.Need-operand-below-requires-2
-operand-below-requires-2 c κs = (c .before .before .before .before .pre .0, second-operand (c .before .before .before .before .pre .1))
+operand-below-requires-2 c κs = let p = c .before .before .before .before .pre in (p .0, second-operand (p .1))
 
 returns-2 : tie.Need-returns-2
 returns-2 c =
-    let c2 = c .before .before in
-    let c3 = c2 .before in
-    let c6 = c3 .before .before .before in
-    flag-second (c6 .pre .1) (c6 .args .limits .now) (sym (c3 .operand-below .ensures) ∙ not-false _ (c2 .if1 .left)) (sym (c .before .operand-below2 .ensures) ∙ not-true _ (c .if2 .taken))
+    let second = c .before in
+    let if1 = second .before in
+    let first = if1 .before in
+    let start = first .before .before .before in
+    flag-second (start .pre .1) (start .args .limits .now)
+    (sym (first .operand-below .ensures) ∙ not-false _ (if1 .if1 .left))
+    (sym (second .operand-below2 .ensures) ∙ not-true _ (c .if2 .taken))
 
-add-if3 : tie.Need-add-if3
-add-if3 c = omega (arith, c .before .before .before .before .before .before .pre .1 .whole)
+add-third-below : tie.Need-add-third-below
+add-third-below c = omega (arith, c .before .before .before .before .before .before .pre .1 .whole)
+
+third-below-requires : tie.Need-third-below-requires
+third-below-requires c κs = let p = c .before .before .before .before .before .before .pre in (p .0, third-operand (p .1))
 
 returns-3 : tie.Need-returns-3
 returns-3 c =
-    let c2 = c .before .before in
-    let c3 = c2 .before in
-    let c4 = c3 .before in
-    let c7 = c4 .before .before .before in
-    flag-inside (c7 .pre .1) (c7 .args .limits .now) (sym (c4 .operand-below .ensures) ∙ not-false _ (c3 .if1 .left))
-    (sym (c2 .operand-below2 .ensures) ∙ not-false _ (c .before .if2 .left)) (c .if3 .taken)
+    let third = c .before in
+    let if2 = third .before in
+    let second = if2 .before in
+    let if1 = second .before in
+    let first = if1 .before in
+    let start = first .before .before .before in
+    flag-third (start .pre .1) (start .args .limits .now)
+    (sym (first .operand-below .ensures) ∙ not-false _ (if1 .if1 .left))
+    (sym (second .operand-below2 .ensures) ∙ not-false _ (if2 .if2 .left))
+    (sym (third .third-below .ensures) ∙ not-true _ (c .if3 .taken))
+
+add-if4 : tie.Need-add-if4
+add-if4 c = omega (arith, c .before .before .before .before .before .before .before .before .pre .1 .whole)
 
 returns-4 : tie.Need-returns-4
 returns-4 c =
-    let c2 = c .before .before in
-    let c3 = c2 .before in
-    let c4 = c3 .before in
-    let c7 = c4 .before .before .before in
-    flag-last (c7 .pre .1) (c7 .args .limits .now) (sym (c4 .operand-below .ensures) ∙ not-false _ (c3 .if1 .left))
-    (sym (c2 .operand-below2 .ensures) ∙ not-false _ (c .before .if2 .left)) (c .if3 .left)
+    let if3 = c .before in
+    let third = if3 .before in
+    let if2 = third .before in
+    let second = if2 .before in
+    let if1 = second .before in
+    let first = if1 .before in
+    let start = first .before .before .before in
+    flag-inside (start .pre .1) (start .args .limits .now)
+    (sym (first .operand-below .ensures) ∙ not-false _ (if1 .if1 .left))
+    (sym (second .operand-below2 .ensures) ∙ not-false _ (if2 .if2 .left))
+    (sym (third .third-below .ensures) ∙ not-false _ (if3 .if3 .left))
+    (c .if4 .taken)
+
+returns-5 : tie.Need-returns-5
+returns-5 c =
+    let if3 = c .before in
+    let third = if3 .before in
+    let if2 = third .before in
+    let second = if2 .before in
+    let if1 = second .before in
+    let first = if1 .before in
+    let start = first .before .before .before in
+    flag-last (start .pre .1) (start .args .limits .now)
+    (sym (first .operand-below .ensures) ∙ not-false _ (if1 .if1 .left))
+    (sym (second .operand-below2 .ensures) ∙ not-false _ (if2 .if2 .left))
+    (sym (third .third-below .ensures) ∙ not-false _ (if3 .if3 .left))
+    (c .if4 .left)
 
 pub flag-at-spec : {M : Type 1} → statement M
 flag-at-spec =
@@ -61,8 +98,11 @@ flag-at-spec =
     add-operand-below-2
     operand-below-requires-2
     returns-2
-    add-if3
-    (λ c. search needs)
+    add-third-below
+    third-below-requires
     returns-3
+    add-if4
     (λ c. search needs)
-    returns-4)
+    returns-4
+    (λ c. search needs)
+    returns-5)

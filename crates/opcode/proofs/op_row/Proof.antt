@@ -1,76 +1,27 @@
--- `opcode::op_row` meets its contract: each shape has its row.
+-- `opcode::op_row` meets its contract: the row from the digits.
 -- Assumes nothing.
 use borrow.Author.Needs.{needs}
-use mathlib.Core.Path.{refl}
-use Rattle.opcode.proofs.Rows.{shaped}
+use Rattle.opcode.proofs.Rows.{row-told}
 use Rattle.opcode.proofs.op_row.Statement.{statement}
 use Rattle.opcode.proofs.op_row.Tie as tie
+
+returns : tie.Need-returns
+returns c =
+    let c1 = c .before in
+    let c2 = c1 .before in
+    let c3 = c2 .before in
+    let c4 = c3 .before in
+    let c5 = c4 .before in
+    row-told (c5 .before .args .b) (c5 .digits .ensures) (c4 .kind-of .ensures) (c3 .role-of .ensures) (c2 .role-of2 .ensures) (c1 .role-of3 .ensures) (c .flow-of .ensures)
 
 pub op-row-spec : {M : Type 1} → statement M
 op-row-spec =
     tie.close
     (tie.spec
     (λ c κs. search needs)
-    (λ c. search needs)
     (λ c κs. search needs)
-    (λ c. search needs)
     (λ c κs. search needs)
-    (λ c. search needs)
     (λ c κs. search needs)
-    (λ c. search needs)
     (λ c κs. search needs)
-    (λ c. search needs)
     (λ c κs. search needs)
-    (λ c. search needs)
-    (λ c κs. search needs)
-    (λ c. search needs)
-    (λ c κs. search needs)
-    (λ c. search needs)
-    (λ c κs. search needs)
-    (λ c. search needs)
-    (λ c κs. search needs)
-    (λ c. search needs)
-    (λ c κs. search needs)
-    (λ c. search needs)
-    (λ c κs. search needs)
-    (λ c. search needs)
-    (λ c κs. search needs)
-    (λ c. search needs)
-    (λ c κs. search needs)
-    (λ c. search needs)
-    (λ c κs. search needs)
-    (λ c. search needs)
-    (λ c κs. search needs)
-    (λ c. search needs)
-    (λ c κs. search needs)
-    (λ c. search needs)
-    (λ c κs. search needs)
-    (λ c. search needs)
-    (λ c κs. search needs)
-    (λ c. search needs)
-    (λ c κs. search needs)
-    (λ c. search needs)
-    (λ c κs. search needs)
-    (λ c. search needs)
-    (λ c κs. search needs)
-    (λ c. shaped (c .row .ensures) (c .before .enum-told .given .1) (c .before .before .before .shape-of .ensures) refl)
-    (λ c. shaped (c .row2 .ensures) (c .before .enum-told2 .given .1) (c .before .before .before .shape-of .ensures) refl)
-    (λ c. shaped (c .row3 .ensures) (c .before .enum-told3 .given .1) (c .before .before .before .shape-of .ensures) refl)
-    (λ c. shaped (c .row4 .ensures) (c .before .enum-told4 .given .1) (c .before .before .before .shape-of .ensures) refl)
-    (λ c. shaped (c .row5 .ensures) (c .before .enum-told5 .given .1) (c .before .before .before .shape-of .ensures) refl)
-    (λ c. shaped (c .row6 .ensures) (c .before .enum-told6 .given .1) (c .before .before .before .shape-of .ensures) refl)
-    (λ c. shaped (c .row7 .ensures) (c .before .enum-told7 .given .1) (c .before .before .before .shape-of .ensures) refl)
-    (λ c. shaped (c .row8 .ensures) (c .before .enum-told8 .given .1) (c .before .before .before .shape-of .ensures) refl)
-    (λ c. shaped (c .row9 .ensures) (c .before .enum-told9 .given .1) (c .before .before .before .shape-of .ensures) refl)
-    (λ c. shaped (c .row10 .ensures) (c .before .enum-told10 .given .1) (c .before .before .before .shape-of .ensures) refl)
-    (λ c. shaped (c .row11 .ensures) (c .before .enum-told11 .given .1) (c .before .before .before .shape-of .ensures) refl)
-    (λ c. shaped (c .row12 .ensures) (c .before .enum-told12 .given .1) (c .before .before .before .shape-of .ensures) refl)
-    (λ c. shaped (c .row13 .ensures) (c .before .enum-told13 .given .1) (c .before .before .before .shape-of .ensures) refl)
-    (λ c. shaped (c .row14 .ensures) (c .before .enum-told14 .given .1) (c .before .before .before .shape-of .ensures) refl)
-    (λ c. shaped (c .row15 .ensures) (c .before .enum-told15 .given .1) (c .before .before .before .shape-of .ensures) refl)
-    (λ c. shaped (c .row16 .ensures) (c .before .enum-told16 .given .1) (c .before .before .before .shape-of .ensures) refl)
-    (λ c. shaped (c .row17 .ensures) (c .before .enum-told17 .given .1) (c .before .before .before .shape-of .ensures) refl)
-    (λ c. shaped (c .row18 .ensures) (c .before .enum-told18 .given .1) (c .before .before .before .shape-of .ensures) refl)
-    (λ c. shaped (c .row19 .ensures) (c .before .enum-told19 .given .1) (c .before .before .before .shape-of .ensures) refl)
-    (λ c. shaped (c .row20 .ensures) (c .before .enum-told20 .given .1) (c .before .before .before .shape-of .ensures) refl)
-    (λ c. shaped (c .row21 .ensures) (c .before .enum-told21 .given .1) (c .before .before .before .shape-of .ensures) refl))
+    returns)

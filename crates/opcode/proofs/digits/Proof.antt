@@ -1,9 +1,9 @@
--- `flags::digits` meets its contract: each arm has the digits of its byte.
+-- `opcode::digits` meets its contract: each arm has the digits of its byte.
 -- Assumes nothing.
 use Rattle.format.specs.Insn.{table, row}
-use Rattle.flags.proofs.Numbers.{at, above}
-use Rattle.flags.proofs.digits.Statement.{statement}
-use Rattle.flags.proofs.digits.Tie as tie
+use Rattle.opcode.proofs.Numbers.{at, above}
+use Rattle.opcode.proofs.digits.Statement.{statement}
+use Rattle.opcode.proofs.digits.Tie as tie
 
 pub digits-spec : {M : Type 1} → statement M
 unfolding row table

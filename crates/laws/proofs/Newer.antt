@@ -1,0 +1,199 @@
+-- Request c): the roles of GETIDX0, SSEND0, SEND0, TDEF and SDEF, what 17 tests at them, and the children that are entered at TDEF and SDEF.
+-- Assumes nothing.
+use Prim.Native.Nat.{ℕ, _+_, _<_}
+use native.Mathlib.Omega.{arith}
+use mathlib.Core.Path.{_≡_, refl, _∙_}
+use mathlib.Core.Logic.{_⊎_, ⊎-elim}
+use mathlib.Core.Bool.{Bool, true, false, _&&_, _||_, cond}
+use mathlib.Core.List.{List, [], _∷_, map}
+use lib.Dec.{T, ltb}
+use lib.ListN.{length, getD}
+use Rattle.format.specs.Bytes.{byte}
+use Rattle.format.specs.Insn.{Role, reg, pool, sym as symbol, child, plain, OpCode, MOVE, LOADL, LOADSYM, GETGV, SETMCNST, GETIDX0, RESCUE, MATCHERR}
+use Rattle.format.specs.Insn.{SSEND, SSEND0, SSENDB, SEND, SEND0, SENDB, BLKCALL, «KEY_P», KARG, ADDILV, SUBILV, ARRAY2, AREF, ASET, SYMBOL, STRING}
+use Rattle.format.specs.Insn.{LAMBDA, BLOCK, METHOD, CLASS, MODULE, EXEC, DEF, TDEF, SDEF, ALIAS, number, Kind, Z, B, BB, S, BBB, BS, W, BSS, Row, op}
+use Rattle.format.specs.Insn.{name, kind, roles, fields, table, row, operands, opcode, rowAt, operandsAt, rest}
+use Rattle.format.specs.Rules.{among, between, firstRole}
+use Rattle.format.specs.Pattern.{Record, Pattern, recAt}
+use Rattle.format.specs.Exam.{Below, below, allBelow, operandsBelow}
+use Rattle.format.specs.Run.{enter, Frame, codeOf, into, move}
+use Rattle.format.specs.Claim.{FrameHolds}
+use Rattle.format.proofs.Table.{both}
+use Rattle.runs.proofs.Operands.{below-bytes, child-bytes}
+
+abbrev rolesOf : OpCode → List Role
+rolesOf o = roles (row (number o))
+
+-- "GETIDX0's second operand is a register. In SSEND0 and SEND0 the second is a symbol. In TDEF and SDEF the second is a symbol and the third a child.
+-- The other opcodes without a comment keep paper 01's roles."
+pub the-five : (rolesOf GETIDX0 ≡ reg ∷ reg ∷ [])
+    × (rolesOf SSEND0 ≡ reg ∷ symbol ∷ [])
+    × (rolesOf SEND0 ≡ reg ∷ symbol ∷ [])
+    × (rolesOf TDEF ≡ reg ∷ symbol ∷ child ∷ [])
+    × (rolesOf SDEF ≡ reg ∷ symbol ∷ child ∷ [])
+unfolding row table
+the-five = (refl, refl, refl, refl, refl)
+
+pub the-others : (rolesOf MATCHERR ≡ reg ∷ [])
+    × (rolesOf BLKCALL ≡ reg ∷ plain ∷ [])
+    × (rolesOf ADDILV ≡ reg ∷ plain ∷ plain ∷ [])
+    × (rolesOf SUBILV ≡ reg ∷ plain ∷ plain ∷ [])
+unfolding row table
+the-others = (refl, refl, refl, refl)
+
+-- Paper 01's roles, by its own sentence on second operands; a third has none.
+abbrev secondRole01 : OpCode → Role
+secondRole01 o =
+    cond (among (MOVE ∷ RESCUE ∷ ARRAY2 ∷ AREF ∷ ASET ∷ []) o) reg
+    (cond (among (LOADL ∷ SYMBOL ∷ STRING ∷ []) o) pool
+    (cond (among (LOADSYM ∷ []) o || between GETGV SETMCNST o
+    || among (SSEND ∷ SSENDB ∷ SEND ∷ SENDB ∷ «KEY_P» ∷ KARG ∷ CLASS ∷ MODULE ∷ DEF ∷ ALIAS ∷ []) o) symbol
+    (cond (among (LAMBDA ∷ BLOCK ∷ METHOD ∷ EXEC ∷ []) o) child plain)))
+
+abbrev roles01 : OpCode → Kind → List Role
+roles01 o Z = []
+roles01 o B = firstRole o ∷ []
+roles01 o BB = firstRole o ∷ secondRole01 o ∷ []
+roles01 o S = plain ∷ []
+roles01 o BBB = firstRole o ∷ secondRole01 o ∷ plain ∷ []
+roles01 o BS = firstRole o ∷ secondRole01 o ∷ []
+roles01 o W = plain ∷ []
+roles01 o BSS = firstRole o ∷ secondRole01 o ∷ plain ∷ []
+
+-- before: the first operand of the five had a role alone, and others had the roles of now
+abbrev newer : OpCode → Bool
+newer o = among (GETIDX0 ∷ SSEND0 ∷ SEND0 ∷ TDEF ∷ SDEF ∷ []) o
+
+abbrev firstAlone : List Role → List Role
+firstAlone [] = []
+firstAlone (x ∷ xs) = x ∷ map (λ (y : Role). plain) xs
+
+abbrev pub earlier : Row → List Role
+earlier r = cond (newer (name r)) (firstAlone (roles r)) (roles r)
+
+-- these are paper 01's, over the whole table
+pub as-paper-01 : map (λ (r : Row). roles01 (name r) (kind r)) table ≡ map earlier table
+unfolding table
+as-paper-01 = refl
+
+-- so where 17 is not met now it was not met before
+plains-below : (r : Record) (xs : List Role) (vs : List ℕ) → T (allBelow r (map (λ (y : Role). plain) xs) vs)
+unfolding allBelow below
+plains-below r [] vs = tt
+plains-below r (x ∷ xs) [] = tt
+plains-below r (x ∷ xs) (v ∷ vs) = plains-below r xs vs
+
+and-both : (a b : Bool) → T a → T b → T (a && b)
+and-both true b t u = u
+and-both false b t u = absurd t
+
+first-below : (r : Record) (xs : List Role) (vs : List ℕ) → T (allBelow r xs vs) → T (allBelow r (firstAlone xs) vs)
+unfolding allBelow
+first-below r [] vs t = tt
+first-below r (x ∷ xs) [] t = tt
+first-below r (x ∷ xs) (v ∷ vs) t = and-both (below r x v) _ (search both) (plains-below r xs vs)
+
+pub passed-before : (r : Record) (o : ℕ) → T (operandsBelow r o) → T (allBelow r (earlier (rowAt (r .code) o)) (operandsAt (r .code) o))
+unfolding operandsBelow
+passed-before r o t = go (newer (name (rowAt (r .code) o)))
+  where
+    xs : List Role
+    xs = roles (rowAt (r .code) o)
+
+    go : (b : Bool) → T (allBelow r (cond b (firstAlone xs) xs) (operandsAt (r .code) o))
+    go true = first-below r xs (operandsAt (r .code) o) t
+    go false = t
+
+and-true : (a : Bool) → (a && true) ≡ a
+and-true true = refl
+and-true false = refl
+
+-- the instruction at o is one of these
+abbrev pub IsSend0 : List ℕ → ℕ → Type 0
+IsSend0 c o = (opcode c o ≡ number SSEND0) ⊎ (opcode c o ≡ number SEND0)
+
+abbrev pub IsDef : List ℕ → ℕ → Type 0
+IsDef c o = (opcode c o ≡ number TDEF) ⊎ (opcode c o ≡ number SDEF)
+
+record Shaped (c : List ℕ) (o : ℕ) (k : Kind) (xs : List Role) : Type 0 where
+  kind-is : kind (rowAt c o) ≡ k
+  roles-are : roles (rowAt c o) ≡ xs
+
+shape : (c : List ℕ) (o b : ℕ) {k : Kind} {xs : List Role} → opcode c o ≡ b → kind (row b) ≡ k → roles (row b) ≡ xs → Shaped c o k xs
+shape c o b e q p = record { kind-is = rw e q; roles-are = rw e p }
+
+getidx0-shape : (c : List ℕ) (o : ℕ) → opcode c o ≡ number GETIDX0 → Shaped c o BB (reg ∷ reg ∷ [])
+unfolding row table
+getidx0-shape c o e = shape c o (number GETIDX0) e refl refl
+
+send0-shape : (c : List ℕ) (o : ℕ) → IsSend0 c o → Shaped c o BB (reg ∷ symbol ∷ [])
+unfolding row table
+send0-shape c o i = ⊎-elim (λ e. shape c o (number SSEND0) e refl refl) (λ e. shape c o (number SEND0) e refl refl) i
+
+def-shape : (c : List ℕ) (o : ℕ) → IsDef c o → Shaped c o BBB (reg ∷ symbol ∷ child ∷ [])
+unfolding row table
+def-shape c o i = ⊎-elim (λ e. shape c o (number TDEF) e refl refl) (λ e. shape c o (number SDEF) e refl refl) i
+
+-- "Refusal 17 .. cover these operands and children": what it tests there
+module _ (r : Record) (o : ℕ) where
+  pub getidx0-tests : opcode (r .code) o ≡ number GETIDX0
+      → operandsBelow r o ≡ (ltb (byte (r .code) (o + 1)) (r .nregs) && ltb (byte (r .code) (o + 2)) (r .nregs))
+  unfolding below
+  getidx0-tests e =
+      let q = getidx0-shape (r .code) o e .roles-are in
+      rw q at (below-bytes r o) ∙ rw (and-true (ltb (byte (r .code) (o + 2)) (r .nregs)))
+
+  pub send0-tests : IsSend0 (r .code) o → operandsBelow r o ≡ (ltb (byte (r .code) (o + 1)) (r .nregs) && ltb (byte (r .code) (o + 2)) (r .nsyms))
+  unfolding below
+  send0-tests i =
+      let q = send0-shape (r .code) o i .roles-are in
+      rw q at (below-bytes r o) ∙ rw (and-true (ltb (byte (r .code) (o + 2)) (r .nsyms)))
+
+  pub def-tests : IsDef (r .code) o
+      → operandsBelow r o
+      ≡ (ltb (byte (r .code) (o + 1)) (r .nregs) && (ltb (byte (r .code) (o + 2)) (r .nsyms) && ltb (byte (r .code) (o + 3)) (r .rlen)))
+  unfolding below
+  def-tests i =
+      let q = def-shape (r .code) o i .roles-are in
+      rw q at (below-bytes r o) ∙ rw (and-true (ltb (byte (r .code) (o + 3)) (r .rlen)))
+
+  -- "TDEF and SDEF can be entered like METHOD": the child is the third operand, where it is METHOD's second
+  pub enter-def : IsDef (r .code) o → move r o enter ≡ into (byte (r .code) (o + 3)) (o + 4)
+  unfolding move opcode rest
+  enter-def i =
+      let s = def-shape (r .code) o i in
+      let q = s .roles-are in
+      let k = s .kind-is in
+      let e = child-bytes (r .code) o in
+      rw (e, q, k)
+
+  pub enter-method : opcode (r .code) o ≡ number METHOD → move r o enter ≡ into (byte (r .code) (o + 2)) (o + 3)
+  unfolding move opcode rest row table
+  enter-method m = let e = child-bytes (r .code) o in rw (e, m)
+
+-- "and the run guarantee": so in every frame of a run, by what demand 3 says of frames
+module _ {p : Pattern} {f : Frame} (h : FrameHolds p f) where
+  at-operand : {k : Kind} {xs : List Role} → Shaped (codeOf p f) (f .at) k xs → (i : ℕ) → i < length xs
+      → Below (recAt p (f .rec)) (getD xs i plain) (getD (operands (fields k) (codeOf p f) (f .at + 1)) i 0)
+  at-operand s i l = let k = s .kind-is in let q = s .roles-are in rw (k, q) at (h .operands i) l
+
+  pub getidx0-frame : opcode (codeOf p f) (f .at) ≡ number GETIDX0 → byte (codeOf p f) (f .at + 2) < recAt p (f .rec) .nregs
+  unfolding operands
+  getidx0-frame e =
+      let two : f .at + 1 + 1 ≡ f .at + 2 = omega arith in
+      rw two at (at-operand (getidx0-shape (codeOf p f) (f .at) e) 1 (omega arith))
+
+  pub send0-frame : IsSend0 (codeOf p f) (f .at) → byte (codeOf p f) (f .at + 2) < recAt p (f .rec) .nsyms
+  unfolding operands
+  send0-frame i =
+      let two : f .at + 1 + 1 ≡ f .at + 2 = omega arith in
+      rw two at (at-operand (send0-shape (codeOf p f) (f .at) i) 1 (omega arith))
+
+  pub def-frame : IsDef (codeOf p f) (f .at)
+      → (byte (codeOf p f) (f .at + 2) < recAt p (f .rec) .nsyms) × (byte (codeOf p f) (f .at + 3) < recAt p (f .rec) .rlen)
+  unfolding operands
+  def-frame i =
+      let s = def-shape (codeOf p f) (f .at) i in
+      let two : f .at + 1 + 1 ≡ f .at + 2 = omega arith in
+      let three : f .at + 1 + 1 + 1 ≡ f .at + 3 = omega arith in
+      (rw two at (at-operand s 1 (omega arith)), rw three at (at-operand s 2 (omega arith)))

@@ -1,0 +1,192 @@
+-- The digits of an opcode byte: at a byte, above 118, each of them, and the row that they are of.
+-- Assumes nothing.
+use Prim.Native.Nat.{ℕ, zero, suc, _/_, _%_, _≤_, _<_}
+use native.Mathlib.Omega.{arith}
+use mathlib.Core.Path.{_≡_, refl, sym, ap, _∙_}
+use mathlib.Core.Bool.{Bool, true, false, cond}
+use mathlib.Core.List.{[]}
+use lib.ListN.{List·getD-eq-default}
+use borrow.Author.Tests.{le-ltb, ne-eqb}
+use Rattle.format.specs.Insn.{Kind, Z, B, BB, BBB, BS, BSS, S, W, Role, reg, pool, sym as symbol, child, plain, Flow, on, ends, jumps, may, NOP, Row, op}
+use Rattle.format.specs.Insn.{table, kind, flow, row, size}
+use Rattle.format.proofs.Table.{width-small}
+use Rattle.opcode.specs.Digits.{firstRole, secondRole, thirdRole, roleNumber, roleAt, flagInside, flagLast, flowAt, kindNumber, kindAt}
+use Rattle.opcode.specs.Digits.{rowDigits, instruction, digitsOf}
+
+pub at : {b k : ℕ} → b ≡ k → digitsOf k ≡ digitsOf b
+at e = ap digitsOf (sym e)
+
+-- b is none of the numbers below n
+abbrev pub NoneOf : ℕ → ℕ → Type 0
+NoneOf zero b = Unit {0}
+NoneOf (suc n) b = NoneOf n b × (b ≡ n → ⊥)
+
+not-below : (n b : ℕ) → NoneOf n b → n ≤ b
+not-below zero b h = omega arith
+not-below (suc n) b h = omega (arith, not-below n b (h .0), h .1)
+
+pub above : {b : ℕ} → NoneOf 119 b → rowDigits 0 (op NOP Z [] on) ≡ digitsOf b
+unfolding row table
+above {b} h =
+    let n = not-below 119 b h in
+    rw (le-ltb b 119 n) (ap (rowDigits 0) (sym (List·getD-eq-default table (op NOP Z [] on) {n = b} n)))
+
+pub role-small : (x : Role) → roleNumber x < 5
+role-small plain = omega arith
+role-small reg = omega arith
+role-small pool = omega arith
+role-small symbol = omega arith
+role-small child = omega arith
+
+inside-small : (w : Flow) → flagInside w < 8
+inside-small on = omega arith
+inside-small ends = omega arith
+inside-small jumps = omega arith
+inside-small may = omega arith
+
+last-small : (w : Flow) → flagLast w < 8
+last-small on = omega arith
+last-small ends = omega arith
+last-small jumps = omega arith
+last-small may = omega arith
+
+kind-small : (k : Kind) → kindNumber k < 8
+kind-small Z = omega arith
+kind-small B = omega arith
+kind-small BB = omega arith
+kind-small BBB = omega arith
+kind-small BS = omega arith
+kind-small BSS = omega arith
+kind-small S = omega arith
+kind-small W = omega arith
+
+-- each digit: d are the digits of an instruction of n bytes whose opcode has the row r
+module _ {d n : ℕ} (r : Row) (e : d ≡ rowDigits n r) (s : n < 64) where
+  pub size-digits : d % 64 ≡ n
+  size-digits = omega arith
+
+  pub first-digit : d / 64 % 8 ≡ roleNumber (firstRole r)
+  first-digit = omega (arith, role-small (firstRole r))
+
+  pub second-digit : d / 512 % 8 ≡ roleNumber (secondRole r)
+  second-digit = omega (arith, role-small (firstRole r), role-small (secondRole r))
+
+  pub third-digit : d / 4096 % 8 ≡ roleNumber (thirdRole r)
+  third-digit = omega (arith, role-small (firstRole r), role-small (secondRole r), role-small (thirdRole r))
+
+  pub inside-digit : d / 32768 % 8 ≡ flagInside (flow r)
+  inside-digit = omega (arith, role-small (firstRole r), role-small (secondRole r), role-small (thirdRole r), inside-small (flow r))
+
+  pub last-digit : d / 262144 % 8 ≡ flagLast (flow r)
+  last-digit =
+      omega (arith, role-small (firstRole r), role-small (secondRole r), role-small (thirdRole r), inside-small (flow r), last-small (flow r))
+
+  pub kind-digit : d / 2097152 % 8 ≡ kindNumber (kind r)
+  kind-digit =
+      omega (arith, role-small (firstRole r), role-small (secondRole r), role-small (thirdRole r), inside-small (flow r), last-small (flow r), kind-small (kind r))
+
+-- and what it is the number of
+pub role-back : (x : Role) → roleAt (roleNumber x) ≡ x
+role-back plain = refl
+role-back reg = refl
+role-back pool = refl
+role-back symbol = refl
+role-back child = refl
+
+flow-back : (w : Flow) → flowAt (flagInside w) (flagLast w) ≡ w
+flow-back on = refl
+flow-back ends = refl
+flow-back jumps = refl
+flow-back may = refl
+
+kind-back : (k : Kind) → kindAt (kindNumber k) ≡ k
+kind-back Z = refl
+kind-back B = refl
+kind-back BB = refl
+kind-back BBB = refl
+kind-back BS = refl
+kind-back BSS = refl
+kind-back S = refl
+kind-back W = refl
+
+-- of a number that has no arm
+pub role-else : (n : ℕ) → NoneOf 5 n → plain ≡ roleAt n
+role-else n h = go n (not-below 5 n h)
+  where
+    go : (n : ℕ) → 5 ≤ n → plain ≡ roleAt n
+    go zero s = refl
+    go (suc zero) s = absurd (omega arith)
+    go (suc (suc zero)) s = absurd (omega arith)
+    go (suc (suc (suc zero))) s = absurd (omega arith)
+    go (suc (suc (suc (suc zero)))) s = absurd (omega arith)
+    go (suc (suc (suc (suc (suc n))))) s = refl
+
+pub kind-else : (n : ℕ) → NoneOf 7 n → W ≡ kindAt n
+kind-else n h = go n (not-below 7 n h)
+  where
+    go : (n : ℕ) → 7 ≤ n → W ≡ kindAt n
+    go zero s = absurd (omega arith)
+    go (suc zero) s = absurd (omega arith)
+    go (suc (suc zero)) s = absurd (omega arith)
+    go (suc (suc (suc zero))) s = absurd (omega arith)
+    go (suc (suc (suc (suc zero)))) s = absurd (omega arith)
+    go (suc (suc (suc (suc (suc zero))))) s = absurd (omega arith)
+    go (suc (suc (suc (suc (suc (suc zero)))))) s = absurd (omega arith)
+    go (suc (suc (suc (suc (suc (suc (suc n))))))) s = refl
+
+-- where a run goes on, by the flags x inside a record and y at its end
+module _ (x y : ℕ) where
+  pub flow-ends : y ≡ 1 → ends ≡ flowAt x y
+  flow-ends e = rw e
+
+  pub flow-jumps : y ≡ 3 → jumps ≡ flowAt x y
+  flow-jumps e = rw e
+
+  module _ (p : y ≡ 1 → ⊥) (q : y ≡ 3 → ⊥) where
+    pub flow-on : x ≡ 1 → on ≡ flowAt x y
+    flow-on e = rw (ne-eqb y 1 p, ne-eqb y 3 q, e)
+
+    pub flow-may : (x ≡ 1 → ⊥) → may ≡ flowAt x y
+    flow-may e = rw (ne-eqb y 1 p, ne-eqb y 3 q, ne-eqb x 1 e)
+
+pub few : (b : ℕ) → cond (instruction b) (size b) 0 < 64
+few b = go (instruction b)
+  where
+    go : (x : Bool) → cond x (size b) 0 < 64
+    go true = omega (arith, width-small (kind (row b)))
+    go false = omega arith
+
+-- the row of an opcode byte, from its digits
+module _ (b : ℕ) {d : ℕ} (e : d ≡ digitsOf b) where
+  pub row-first : roleAt (d / 64 % 8) ≡ firstRole (row b)
+  row-first = ap roleAt (first-digit (row b) e (few b)) ∙ role-back (firstRole (row b))
+
+  pub row-second : roleAt (d / 512 % 8) ≡ secondRole (row b)
+  row-second = ap roleAt (second-digit (row b) e (few b)) ∙ role-back (secondRole (row b))
+
+  pub row-third : roleAt (d / 4096 % 8) ≡ thirdRole (row b)
+  row-third = ap roleAt (third-digit (row b) e (few b)) ∙ role-back (thirdRole (row b))
+
+  pub row-flow : flowAt (d / 32768 % 8) (d / 262144 % 8) ≡ flow (row b)
+  row-flow = rw (inside-digit (row b) e (few b), last-digit (row b) e (few b)) (flow-back (flow (row b)))
+
+  pub row-kind : kindAt (d / 2097152 % 8) ≡ kind (row b)
+  row-kind = ap kindAt (kind-digit (row b) e (few b)) ∙ kind-back (kind (row b))
+
+  -- no size, no instruction
+  pub no-size : d % 64 ≡ 0 → false ≡ instruction b
+  no-size z = go (instruction b) refl
+    where
+      go : (x : Bool) → instruction b ≡ x → false ≡ x
+      go false q = refl
+      go true q = let w : d % 64 ≡ size b = size-digits (row b) e (few b) ∙ rw q in absurd (omega arith)
+
+  pub some-size : (d % 64 ≡ 0 → ⊥) → instruction b ≡ true
+  some-size z = go (instruction b) refl
+    where
+      go : (x : Bool) → instruction b ≡ x → x ≡ true
+      go true q = refl
+      go false q = absurd (z (size-digits (row b) e (few b) ∙ rw q))
+
+  pub size-is : instruction b ≡ true → d % 64 ≡ size b
+  size-is q = size-digits (row b) e (few b) ∙ rw q
