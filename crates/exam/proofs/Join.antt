@@ -6,7 +6,7 @@ use mathlib.Core.Path.{_≡_, refl, sym, ap, _∙_}
 use mathlib.Core.Bool.{Bool, true, false}
 use mathlib.Core.List.{List, [], _∷_}
 use lib.Dec.{eqb}
-use lib.ListN.{getD, take, drop}
+use lib.ListN.{take, drop}
 use borrow.Author.Tests.{ne-eqb}
 use Rattle.format.specs.Bytes.{refuse, first}
 use Rattle.format.specs.Insn.{Role, reg, pool, sym as symbol, child, plain, roles, rest, rowAt, operandsAt}

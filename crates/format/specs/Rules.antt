@@ -2,7 +2,6 @@
 -- table of opcodes.
 -- proofs/Table.antt has the computed test that the two agree.
 -- Assumes nothing.
-use Prim.Native.Nat.{ℕ}
 use mathlib.Core.Bool.{Bool, false, _||_, _&&_, cond}
 use mathlib.Core.List.{List, [], _∷_}
 use lib.Dec.{eqb, leb}

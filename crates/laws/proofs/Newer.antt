@@ -11,7 +11,7 @@ use lib.ListN.{length, getD}
 use Rattle.format.specs.Bytes.{byte}
 use Rattle.format.specs.Insn.{Role, reg, pool, sym as symbol, child, plain, OpCode, MOVE, LOADL, LOADSYM, GETGV, SETMCNST, GETIDX0, RESCUE, MATCHERR}
 use Rattle.format.specs.Insn.{SSEND, SSEND0, SSENDB, SEND, SEND0, SENDB, BLKCALL, «KEY_P», KARG, ADDILV, SUBILV, ARRAY2, AREF, ASET, SYMBOL, STRING}
-use Rattle.format.specs.Insn.{LAMBDA, BLOCK, METHOD, CLASS, MODULE, EXEC, DEF, TDEF, SDEF, ALIAS, number, Kind, Z, B, BB, S, BBB, BS, W, BSS, Row, op}
+use Rattle.format.specs.Insn.{LAMBDA, BLOCK, METHOD, CLASS, MODULE, EXEC, DEF, TDEF, SDEF, ALIAS, number, Kind, Z, B, BB, S, BBB, BS, W, BSS, Row}
 use Rattle.format.specs.Insn.{name, kind, roles, fields, table, row, operands, opcode, rowAt, operandsAt, rest}
 use Rattle.format.specs.Rules.{among, between, firstRole}
 use Rattle.format.specs.Pattern.{Record, Pattern, recAt}

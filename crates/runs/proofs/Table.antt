@@ -8,8 +8,8 @@ use mathlib.Core.List.{List, [], _∷_}
 use native.Mathlib.Omega.{arith}
 use lib.Dec.{T}
 use lib.ListN.{length, List·getD-eq-default}
-use Rattle.format.specs.Insn.{Kind, Z, B, BB, S, BBB, BS, W, BSS, Role, reg, pool, sym as symbol, child, plain, Flow, on, ends, jumps, may, NOP, Row}
-use Rattle.format.specs.Insn.{op, width, kind, roles, flow, table, row, operands}
+use Rattle.format.specs.Insn.{Z, Role, reg, pool, sym as symbol, child, plain, Flow, on, ends, jumps, may, NOP, Row, op, width, kind, roles, flow, table}
+use Rattle.format.specs.Insn.{row, operands}
 use Rattle.format.specs.Run.{isChild, childOperand}
 use Rattle.format.proofs.Table.{by-test}
 
