@@ -177,9 +177,10 @@ typedef struct {
 } BlotheathFollowed;
 
 /* Follows the run of a file along choices: loads it, tests that the frame table has as many rows as the file has records (14), examines it, reads
-   all choices (21), then runs from the first record's start. A choice is a byte: 0 go on, 1 jump, 2 enter a child, 3 caught by handler h (two
-   more bytes, high byte first), 4 leave; one that is not open is go on. The frame table has rows of two words, record and offset: the frames,
-   lowest first, then zeros. After a refusal every table, frames too, is zero throughout. */
+   all choices (21), then runs from the first record's start. A choice is a byte: 0 go on, 1 jump, 2 enter the child that an operand names (the
+   second of LAMBDA, BLOCK, METHOD and EXEC, the third of TDEF and SDEF), 3 caught by handler h (two more bytes, high byte first), 4 leave; one
+   that is not open is go on. The frame table has rows of two words, record and offset: the frames, lowest first, then zeros. After a refusal
+   every table, frames too, is zero throughout. */
 BlotheathFollowed blotheath_follow(const uint8_t *file, size_t file_len,
                                    uint32_t *records, size_t records_len,
                                    uint32_t *handlers, size_t handlers_len,

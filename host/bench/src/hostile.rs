@@ -13,6 +13,11 @@ pub fn files() -> Vec<(&'static str, Vec<u8>)> {
         ("1,024 records that share code: NOP", shared_code(&[NOP])),
         ("the same: size 2", shared_code(&[LOADNIL])),
         ("the same: size 3", shared_code(&[MOVE])),
+        ("the same: size 4", shared_code(&[AREF])),
+        (
+            "the same: size 4, all three operands tested",
+            shared_definitions(&[TDEF, SDEF]),
+        ),
         (
             "the same: sizes 1 and 2 in random order",
             shared_code(&[KEYEND, LOADNIL]),
@@ -20,6 +25,10 @@ pub fn files() -> Vec<(&'static str, Vec<u8>)> {
         (
             "the same: sizes 1 to 4 in random order",
             shared_code(&[NOP, KEYEND, LOADNIL, ADD, MOVE, ADDI, GETUPVAR, AREF]),
+        ),
+        (
+            "the same: sizes 1 to 4, all three operands tested in size 4, in random order",
+            shared_definitions(&[NOP, KEYEND, LOADNIL, ADD, MOVE, ADDI, TDEF, SDEF]),
         ),
         ("the same: jumps", shared_code(&[JMP])),
         (
@@ -97,6 +106,8 @@ const MOVE: Kind = kind(1, 3);
 const ADDI: Kind = kind(70, 3);
 const GETUPVAR: Kind = kind(33, 4);
 const AREF: Kind = kind(87, 4);
+const TDEF: Kind = kind(107, 4);
+const SDEF: Kind = kind(108, 4);
 const JMP: Kind = jump(38, 3);
 const JMPNOT: Kind = jump(40, 4);
 
@@ -143,28 +154,56 @@ fn code(kinds: &[Kind], most: usize) -> Vec<u8> {
     code
 }
 
-/// A chain of records that passes. All have their code's end in common, and the code of each begins with the headers of those behind it, read
-/// as instructions: NOP, LOADNIL, LOADI with the number of children, and LOADI32 with the length.
+/// The bytes from one record that shares code to the next: a header and a NOP.
+const STRIDE: usize = 17;
+
+/// The handlers of a record that shares code, their number also the opcode LOADI32; all their bytes are 0, and so their targets.
+const HANDLERS: u16 = 15;
+const HANDLER_BYTES: usize = 13;
+
+/// No entries, as constants or as symbols.
+const NONE: [u8; 2] = [0; 2];
+
+/// One symbol, an empty text.
+const ONE_SYMBOL: [u8; 5] = [0, 1, 0, 0, 0];
+
+/// The length of a code that the last record has for itself, also the opcode LOADI.
+const OWN_LENGTH: usize = 3;
+
+/// What follows the NOP that this code begins with: NOP and STOP, no constants, no symbols.
+const OWN: [u8; 6] = [0, 118, 0, 0, 0, 0];
+
+/// Records that share code, in which operands name registers alone.
 fn shared_code(kinds: &[Kind]) -> Vec<u8> {
-    let stride = 17;
-    // 15 handlers whose targets are 0, no constants, no symbols.
-    let behind = vec![0; 15 * 13 + 4];
-    let code = code(kinds, 65_536 - 32 - RECORDS * stride - behind.len());
-    let end = RECORDS * stride + code.len();
+    chain(kinds, &NONE, &[])
+}
+
+/// Records that share code, in which operands name a symbol and a child too: all but the last, which has no child to name.
+fn shared_definitions(kinds: &[Kind]) -> Vec<u8> {
+    chain(kinds, &ONE_SYMBOL, &OWN)
+}
+
+/// A chain of records that passes, with these symbols. All have their code's end in common, but for a last one that has its own, and the code of
+/// each begins with the headers of those behind it, read as instructions: NOP, LOADNIL, LOADI with the number of children, and LOADI32 with the
+/// length.
+fn chain(kinds: &[Kind], symbols: &[u8], own: &[u8]) -> Vec<u8> {
+    let handlers = [0; HANDLERS as usize * HANDLER_BYTES];
+    let behind = [&handlers[..], &NONE, symbols].concat();
+    let heads = RECORDS * STRIDE + own.len();
+    let code = code(kinds, 65_536 - 32 - heads - behind.len());
+    let end = heads + code.len();
     let mut content = Vec::new();
     for number in 0..RECORDS {
         let is_last = number + 1 == RECORDS;
-        let size = if is_last { LAST_SIZE } else { stride as u32 };
-        content.extend(head(
-            size,
-            0,
-            3,
-            u16::from(!is_last),
-            15,
-            end - content.len() - 16,
-        ));
+        let size = if is_last { LAST_SIZE } else { STRIDE as u32 };
+        let (handlers, length) = match is_last && !own.is_empty() {
+            true => (0, OWN_LENGTH),
+            false => (HANDLERS, end - content.len() - 16),
+        };
+        content.extend(head(size, 0, 3, u16::from(!is_last), handlers, length));
         content.push(0);
     }
+    content.extend(own);
     content.extend(code);
     content.extend(behind);
     file(&[irep(&content)])

@@ -33,7 +33,7 @@ pub fn name(opcode: u8) -> Option<&'static str> {
 
 /// The roles of an opcode's operands.
 pub fn roles(opcode: u8) -> [Role; 3] {
-    [first_role(opcode), second_role(opcode), Role::Plain]
+    [first_role(opcode), second_role(opcode), third_role(opcode)]
 }
 
 fn first_role(opcode: u8) -> Role {
@@ -52,17 +52,24 @@ fn first_role(opcode: u8) -> Role {
 
 fn second_role(opcode: u8) -> Role {
     match name(opcode) {
-        Some("MOVE" | "RESCUE" | "ARRAY2" | "AREF" | "ASET") => Role::Register,
+        Some("MOVE" | "GETIDX0" | "RESCUE" | "ARRAY2" | "AREF" | "ASET") => Role::Register,
         Some("LOADL" | "SYMBOL" | "STRING") => Role::Constant,
         Some(
             "GETGV" | "SETGV" | "GETSV" | "SETSV" | "GETIV" | "SETIV" | "GETCV" | "SETCV"
             | "GETCONST" | "SETCONST" | "GETMCNST" | "SETMCNST",
         ) => Role::Symbol,
         Some(
-            "LOADSYM" | "SSEND" | "SSENDB" | "SEND" | "SENDB" | "KEY_P" | "KARG" | "CLASS"
-            | "MODULE" | "DEF" | "ALIAS",
+            "LOADSYM" | "SSEND" | "SSEND0" | "SSENDB" | "SEND" | "SEND0" | "SENDB" | "KEY_P"
+            | "KARG" | "CLASS" | "MODULE" | "DEF" | "TDEF" | "SDEF" | "ALIAS",
         ) => Role::Symbol,
         Some("LAMBDA" | "BLOCK" | "METHOD" | "EXEC") => Role::Child,
+        _ => Role::Plain,
+    }
+}
+
+fn third_role(opcode: u8) -> Role {
+    match name(opcode) {
+        Some("TDEF" | "SDEF") => Role::Child,
         _ => Role::Plain,
     }
 }

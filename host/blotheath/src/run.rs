@@ -1,7 +1,7 @@
 //! The run of a pattern that passes, choice by choice.
 
 use crate::follow::{Choice, Frame, Standing};
-use crate::opcode::{Flow, Role, flow, roles};
+use crate::opcode::{Flow, flow};
 use crate::pattern::Pattern;
 use crate::step::{Step, Steps};
 use crate::tree::Tree;
@@ -81,7 +81,7 @@ impl<'p, 'a> Run<'p, 'a> {
             (Choice::GoOn, Flow::Next | Flow::MayJump) => self.go(step.next),
             (Choice::Jump, _) => return None,
             (Choice::Enter, _) => {
-                let record = self.child(top, step)?;
+                let record = self.tree.entered(top.record, step)?;
                 self.go(step.next);
                 self.frames.push(Frame { record, offset: 0 });
             }
@@ -91,14 +91,6 @@ impl<'p, 'a> Run<'p, 'a> {
             }
         }
         Some(())
-    }
-
-    /// The record that an instruction lets a run enter.
-    fn child(&self, top: Frame, step: &Step) -> Option<u32> {
-        match roles(step.opcode)[1] {
-            Role::Child => self.tree.child(top.record, step.operands[1]),
-            _ => None,
-        }
     }
 
     fn go(&mut self, offset: u32) {

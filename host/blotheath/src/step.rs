@@ -1,7 +1,7 @@
 //! The instructions of a record, read one behind the other.
 
 use crate::ffi;
-use crate::opcode::{Flow, PREFIXES, flow};
+use crate::opcode::{Flow, PREFIXES, Role, flow, roles};
 
 /// The kinds of operands, in the order of their numbers at the C boundary.
 #[derive(Debug, Clone, Copy, PartialEq, Eq)]
@@ -22,25 +22,33 @@ impl Kind {
         [Z, B, BB, S, BBB, BS, W, BSS].get(number as usize).copied()
     }
 
+    /// The bytes of each operand.
+    fn widths(self) -> &'static [u32] {
+        match self {
+            Kind::Z => &[],
+            Kind::B => &[1],
+            Kind::BB => &[1, 1],
+            Kind::S => &[2],
+            Kind::BBB => &[1, 1, 1],
+            Kind::BS => &[1, 2],
+            Kind::W => &[3],
+            Kind::BSS => &[1, 2, 2],
+        }
+    }
+
+    /// The bytes of the opcode and of so many operands.
+    fn bytes_up_to(self, operands: usize) -> u32 {
+        1 + self.widths().iter().take(operands).sum::<u32>()
+    }
+
     /// The bytes of an instruction of this kind.
     pub fn size(self) -> u32 {
-        match self {
-            Kind::Z => 1,
-            Kind::B => 2,
-            Kind::BB | Kind::S => 3,
-            Kind::BBB | Kind::BS | Kind::W => 4,
-            Kind::BSS => 6,
-        }
+        self.bytes_up_to(self.operands())
     }
 
     /// The number of operands.
     pub fn operands(self) -> usize {
-        match self {
-            Kind::Z => 0,
-            Kind::B | Kind::S | Kind::W => 1,
-            Kind::BB | Kind::BS => 2,
-            Kind::BBB | Kind::BSS => 3,
-        }
+        self.widths().len()
     }
 }
 
@@ -58,6 +66,22 @@ impl Step {
     /// The operands that the kind has.
     pub fn given(&self) -> &[u32] {
         &self.operands[..self.kind.operands()]
+    }
+
+    /// The operands that the kind has, each with its role.
+    pub fn with_roles(&self) -> impl Iterator<Item = (u32, Role)> {
+        self.given().iter().copied().zip(roles(self.opcode))
+    }
+
+    /// The first operand of a role, wherever it stands.
+    pub fn first_of(&self, role: Role) -> Option<u32> {
+        let mut operands = self.with_roles();
+        operands.find_map(|(operand, its)| (its == role).then_some(operand))
+    }
+
+    /// The offset at which an operand's bytes begin.
+    pub fn offset_of(&self, operand: usize) -> u32 {
+        self.offset + self.kind.bytes_up_to(operand)
     }
 
     /// The place among the operands of a jump's distance.
@@ -153,5 +177,57 @@ impl Iterator for Steps<'_> {
             Err(_) => self.code.len(),
         };
         Some(read)
+    }
+}
+
+#[cfg(test)]
+mod tests {
+    use super::*;
+
+    /// The bytes behind an opcode, as many as any kind has.
+    const BEHIND: [u8; 5] = [1, 2, 3, 4, 5];
+
+    /// The instruction of an opcode with these bytes behind it.
+    fn step(opcode: u8) -> Option<Step> {
+        let code = [&[opcode], &BEHIND[..]].concat();
+        Steps::new(&code).next()?.ok()
+    }
+
+    fn named(name: &str) -> Step {
+        let opcode = model::OPCODES.iter().position(|known| known.name == name);
+        step(opcode.unwrap() as u8).unwrap()
+    }
+
+    #[test]
+    fn sizes_are_those_of_the_model() {
+        for (opcode, expected) in (0..).zip(&model::OPCODES) {
+            let size = step(opcode).map(|step| step.kind.size() as usize);
+            let is_prefix = PREFIXES.contains(&opcode);
+            assert_eq!(size, (!is_prefix).then_some(expected.kind.size()));
+        }
+    }
+
+    #[test]
+    fn operands_stand_one_behind_the_other() {
+        for step in (0..=u8::MAX).filter_map(step) {
+            for (place, operand) in step.given().iter().enumerate() {
+                let bytes = step.offset_of(place)..step.offset_of(place + 1);
+                let bytes = bytes.map(|offset| u32::from(BEHIND[offset as usize - 1]));
+                assert_eq!(bytes.fold(0, |high, byte| high << 8 | byte), *operand);
+            }
+            assert_eq!(step.offset_of(step.given().len()), step.next);
+        }
+    }
+
+    #[test]
+    fn a_child_stands_second_or_third() {
+        for name in ["LAMBDA", "BLOCK", "METHOD", "EXEC"] {
+            assert_eq!(named(name).first_of(Role::Child), Some(2), "{name}");
+        }
+        for name in ["TDEF", "SDEF"] {
+            assert_eq!(named(name).first_of(Role::Child), Some(3), "{name}");
+            assert_eq!(named(name).first_of(Role::Symbol), Some(2), "{name}");
+        }
+        assert_eq!(named("DEF").first_of(Role::Child), None);
     }
 }

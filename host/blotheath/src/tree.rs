@@ -1,6 +1,8 @@
 //! The tree of records, by their numbers of children.
 
+use crate::opcode::Role;
 use crate::pattern::Pattern;
+use crate::step::Step;
 
 /// A record's place in the tree.
 #[derive(Debug, Clone, Copy, PartialEq, Eq)]
@@ -56,6 +58,11 @@ impl Tree {
     /// Child k of a record.
     pub fn child(&self, record: u32, number: u32) -> Option<u32> {
         self.children(record).get(number as usize).copied()
+    }
+
+    /// The record that an instruction of a record lets a run enter: the child that one of its operands names.
+    pub fn entered(&self, record: u32, step: &Step) -> Option<u32> {
+        self.child(record, step.first_of(Role::Child)?)
     }
 
     /// The children of a record in turn.

@@ -33,10 +33,25 @@ static const uint8_t constants[80] = {
     'E', 'N', 'D', 0, 0, 0, 0, 8,
 };
 
+/* Two records, TDEF 0 0 0, STOP and STOP: the first has an empty symbol and the second as its child. */
+static const uint8_t definition[89] = {
+    'R', 'I', 'T', 'E', '0', '4', '0', '0', 0, 0, 0, 89, 0, 0, 0, 0, 0, 0, 0, 0,
+    'I', 'R', 'E', 'P', 0, 0, 0, 61, 0, 0, 0, 0,
+    0, 0, 0, 28, 0, 1, 0, 1, 0, 1, 0, 0, 0, 0, 0, 5, 107, 0, 0, 0, 118, 0, 0, 0, 1, 0, 0, 0,
+    0, 0, 0, 21, 0, 1, 0, 1, 0, 0, 0, 0, 0, 0, 0, 1, 118, 0, 0, 0, 0,
+    'E', 'N', 'D', 0, 0, 0, 0, 8,
+};
+
+/* The place of TDEF's third operand. */
+#define CHILD 51
+
+/* The choice to enter a child. */
+static const uint8_t enter[1] = {2};
+
 int main(void) {
-    uint32_t records[19], pool[6], frames[2];
+    uint32_t records[2 * 19], pool[6], symbols[2], frames[2 * 2];
     BlotheathRecord row[1];
-    uint8_t other[sizeof file] = {0};
+    uint8_t other[sizeof file] = {0}, missing[sizeof definition];
 
     hold(blotheath_load(NONE, NO_TABLES).refusal == 2, "a file without bytes is refused by 2");
     hold(blotheath_load(LENT(file), NO_TABLES).refusal == 14, "without tables a record's row has no place");
@@ -75,6 +90,15 @@ int main(void) {
          "its zero byte is part of it");
     BlotheathConstant number = blotheath_pool(LENT(constants), LENT(records), LENT(pool), 0, 1);
     hold(number.refusal == 0 && number.kind == 1 && number.integer == INT64_C(123456789012), "eight bytes, high byte first");
+
+    at = blotheath_follow(LENT(definition), LENT(records), NONE, NONE, LENT(symbols), NONE, NONE, NONE, NONE, NONE,
+                          LENT(frames), LENT(enter));
+    hold(at.refusal == 0 && at.frames == 2 && at.record == 1 && at.offset == 0, "the child of TDEF is entered");
+    hold(frames[0] == 0 && frames[1] == 4, "the frame below stands behind TDEF");
+    memcpy(missing, definition, sizeof missing);
+    missing[CHILD] = 1;
+    hold(blotheath_examine(LENT(missing), LENT(records), NONE, NONE, LENT(symbols), NONE, NONE, NONE, NONE, NONE).refusal == 17,
+         "a third operand that names no child");
 
     hold(blotheath_fetch(NONE).refusal == 24, "an instruction of no bytes");
     hold(blotheath_fetch(file + code.place, code.length).a == 1, "an instruction");

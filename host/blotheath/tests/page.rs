@@ -88,6 +88,7 @@ fn refused() -> Vec<(u32, Vec<u8>)> {
         (16, sample_with(683 + 56, 200)),
         (16, build::one(&[], &[], &[])),
         (17, sample_with(493 + 9, 9)),
+        (17, build::one(&build::NEWER, &[], &build::NEWER_SYMBOLS)),
         (18, sample_with(595 + 33, 1)),
         (19, with_handlers(&[0, 77])),
         (20, with_lines(b"a.rb", &[(2, 1), (0, 2)])),
@@ -158,7 +159,7 @@ fn the_bad_step_is_marked_and_linked() {
     let row = marked(&sample_with(493 + 9, 9));
     assert!(row.contains("<td class=\"offset\">7</td><td class=\"name\">LOADL</td>"));
     assert!(
-        row.contains("<strong>Refused by 17:</strong> constant 9 is named, and the record has 2.")
+        row.contains("<strong>Refused by 17:</strong> the second operand of LOADL names constant 9, counted from 0, and the record has 2.")
     );
     let row = marked(&sample_with(595 + 33, 1));
     assert!(row.contains("<td class=\"offset\">30</td><td class=\"name\">JMPNOT</td>"));

@@ -39,7 +39,7 @@ const HANDLER: [u8; 13] = [0; 13];
 /// A record of one child or none, with a handler and these constants.
 fn record(nlocals: u16, rlen: u16, constants: &[&[u8]]) -> Vec<u8> {
     let mut record = build::record(rlen, &[118], constants, &[b"puts", b"x"]);
-    record[4..6].copy_from_slice(&nlocals.to_be_bytes());
+    record[build::NLOCALS].copy_from_slice(&nlocals.to_be_bytes());
     record[10..12].copy_from_slice(&1u16.to_be_bytes());
     record.splice(17..17, HANDLER);
     let size = record.len() as u32;
@@ -431,7 +431,8 @@ fn bytes_of_examined_records() {
         (place.section, place.byte, place.offset)
     };
     assert_eq!(place(&[0, 119]), (Some("IREP"), Some(49), Some(1)));
-    assert_eq!(place(&[0, 17, 8, 118]), (Some("IREP"), Some(49), Some(1)));
+    // The operand's byte.
+    assert_eq!(place(&[0, 17, 8, 118]), (Some("IREP"), Some(50), Some(1)));
     let mut file = build::file(&[build::irep(&record(1, 0, &[]))]);
     let target = 32 + 16 + 1 + 9;
     file[target + 3] = 1;

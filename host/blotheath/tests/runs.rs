@@ -55,8 +55,9 @@ fn along(file: &[u8], choices: &[Choice]) {
 fn every_standing_is_the_archives() {
     let mut numbers = Numbers(13);
     let mut tried = 0;
-    for path in files() {
-        let file = fs::read(&path).unwrap();
+    let mut stock: Vec<Vec<u8>> = files().iter().map(|path| fs::read(path).unwrap()).collect();
+    stock.push(build::newer());
+    for file in stock {
         let others = (0..20).map(|_| damaged(&file, &mut numbers));
         let others: Vec<Vec<u8>> = others.collect();
         for (number, file) in std::iter::once(file).chain(others).enumerate() {

@@ -10,8 +10,8 @@ use super::text::{self, counted};
 use super::verdict::{judge, refusal_members};
 use super::{Status, complain, input, unusable};
 use blotheath::{
-    Before, Choice, Flow, Frame, Pattern, Refusal, Role, Run, Standing, Step, Tree, flow,
-    looks_like, opcode_name, roles,
+    Before, Choice, Flow, Frame, Pattern, Refusal, Run, Standing, Step, Tree, flow, looks_like,
+    opcode_name,
 };
 use std::io::{self, BufRead, IsTerminal, Write};
 use std::path::Path;
@@ -294,7 +294,7 @@ impl<'w, 'p, 'a> View<'w, 'p, 'a> {
             if flow(step.opcode) == Flow::MayJump {
                 open.push("jump".to_owned());
             }
-            if roles(step.opcode)[1] == Role::Child {
+            if self.reader.tree.entered(frame.record, &step).is_some() {
                 open.push("enter".to_owned());
             }
         }

@@ -62,7 +62,7 @@ blotheath follow FILE [CHOICE..] [--each] [--source SOURCE.rb] [--json]
 Runs a file that passes, from its first instruction, along the choices, and shows the frames with their lines.
     go          goes on: an ending instruction leaves, a jump jumps, others pass to the next
     jump        jumps at JMPIF, JMPNOT, JMPNIL
-    enter       enters the child at LAMBDA, BLOCK, METHOD, EXEC
+    enter       enters the child at LAMBDA, BLOCK, METHOD, EXEC, TDEF, SDEF
     caught N    goes to the target of handler N
     leave       leaves the top frame
 A choice that is not open is go, and that is told. A choice may have a number of times before it: 12 go. Choices may also

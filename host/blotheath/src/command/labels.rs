@@ -2,7 +2,10 @@
 
 use super::MOST_SHOWN;
 use super::text;
-use blotheath::{Pattern, Step, Tree, opcode_name};
+use blotheath::{Pattern, Role, Step, Tree, opcode_name};
+
+/// The bytes of a symbol that a label shows.
+const MOST_OF_SYMBOL: usize = 24;
 
 /// The words for each record.
 pub fn labels(pattern: &Pattern, tree: &Tree) -> Vec<String> {
@@ -35,9 +38,12 @@ fn label(
     labels: &mut [String],
 ) {
     let name = opcode_name(step.opcode).unwrap_or_default();
-    let symbol = |step: Step| match pattern.symbol(number, step.operands[1]) {
-        Ok(symbol) => text::plain(symbol.bytes, 24),
-        Err(_) => String::new(),
+    let symbol = |step: Step| {
+        let index = step.first_of(Role::Symbol);
+        match index.map(|index| pattern.symbol(number, index)) {
+            Some(Ok(symbol)) => text::plain(symbol.bytes, MOST_OF_SYMBOL),
+            _ => String::new(),
+        }
     };
     let (maker, words) = match name {
         "BLOCK" => (step, "block".to_owned()),
@@ -50,9 +56,10 @@ fn label(
             }
             _ => return,
         },
+        "TDEF" | "SDEF" => (step, format!("method {}", symbol(step))),
         _ => return,
     };
-    let child = tree.child(number, maker.operands[1]);
+    let child = tree.entered(number, &maker);
     if let Some(label) = child.and_then(|child| labels.get_mut(child as usize)) {
         *label = words;
     }

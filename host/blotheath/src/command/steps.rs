@@ -8,7 +8,7 @@ use super::load::SHARED_TEXT;
 use super::meaning::{Meaning, Reader};
 use super::source::Source;
 use super::style::Style;
-use super::text::{self, counted};
+use super::text::{self, counted, grouped};
 use super::verdict::{Verdict, judge};
 use super::{MOST_SHOWN, Status, input, unusable};
 use blotheath::{BadStep, Pattern, Record, Step, Tree, opcode_name};
@@ -152,6 +152,14 @@ pub fn margin(steps: &[Step]) -> Margin {
     Margin::of(arrows.collect())
 }
 
+/// A number of children in words.
+fn children(number: u32) -> String {
+    match number {
+        1 => "1 child".to_owned(),
+        number => format!("{} children", grouped(number.into())),
+    }
+}
+
 /// Writes steps for readers.
 struct View<'w, 'p, 'a> {
     out: &'w mut dyn Write,
@@ -172,7 +180,7 @@ impl View<'_, '_, '_> {
             counted(record.ilen.into(), "byte"),
             format!("at {}", record.place),
             counted(record.nregs.into(), "register"),
-            counted(record.rlen.into(), "children").replace("childrens", "children"),
+            children(record.rlen),
         ];
         let about = style.dim(&format!("({})", about.join(", ")));
         writeln!(self.out, "\n{} {about}", style.bold(&title))?;

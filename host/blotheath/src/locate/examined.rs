@@ -1,13 +1,16 @@
 //! Where a refusal by 15 to 20 lies: a search over the loaded rows, in examination's order.
 
 use super::Place;
-use crate::opcode::{Flow, Role, flow, roles};
+use crate::opcode::{Flow, Role, flow, name};
 use crate::pattern::{Pattern, Record};
 use crate::step::Step;
 
 /// The bytes of a handler, and of those before its target.
 const HANDLER_BYTES: u32 = 13;
 const BEFORE_TARGET: u32 = 9;
+
+/// The operands of an instruction in words.
+const ORDINALS: [&str; 3] = ["first", "second", "third"];
 
 /// The first refusal that examination meets, and where.
 pub fn search(pattern: &Pattern) -> Option<(u32, Place)> {
@@ -136,19 +139,43 @@ fn search_record(
 }
 
 fn search_step(record: &Record, step: &Step, begins: &Begins) -> Option<Found> {
-    for (operand, role) in step.given().iter().zip(roles(step.opcode)) {
-        let (bound, thing) = match role {
-            Role::Plain => continue,
-            Role::Register => (record.nregs, "register"),
-            Role::Constant => (record.constants.number, "constant"),
-            Role::Symbol => (record.symbols.number, "symbol"),
-            Role::Child => (record.rlen, "child"),
-        };
-        if *operand >= bound {
-            let what = format!("{thing} {operand} is named, and the record has {bound}");
-            return Found::at(17, record, step.offset, what);
+    search_operands(record, step).or_else(|| search_targets(record, step, begins))
+}
+
+/// The first operand that names what the record does not have; the byte is the operand's own.
+fn search_operands(record: &Record, step: &Step) -> Option<Found> {
+    let mut operands = step.with_roles().enumerate();
+    operands.find_map(|(place, (operand, role))| {
+        let (number, thing) = known(record, role)?;
+        if operand < number {
+            return None;
         }
+        let (ordinal, name) = (ORDINALS[place], name(step.opcode).unwrap_or_default());
+        Some(Found {
+            refusal: 17,
+            section: "IREP",
+            byte: Some(record.place + step.offset_of(place)),
+            offset: Some(step.offset),
+            what: format!(
+                "the {ordinal} operand of {name} names {thing} {operand}, counted from 0, and the record has {number}"
+            ),
+        })
+    })
+}
+
+/// How many things of a role a record has, and the word for one; a plain operand names none.
+fn known(record: &Record, role: Role) -> Option<(u32, &'static str)> {
+    match role {
+        Role::Plain => None,
+        Role::Register => Some((record.nregs, "register")),
+        Role::Constant => Some((record.constants.number, "constant")),
+        Role::Symbol => Some((record.symbols.number, "symbol")),
+        Role::Child => Some((record.rlen, "child")),
     }
+}
+
+/// A jump's target or a next offset at which no instruction begins.
+fn search_targets(record: &Record, step: &Step, begins: &Begins) -> Option<Found> {
     if let Some(target) = step.target().filter(|target| !begins.at(*target)) {
         return Found::at(
             18,

@@ -54,6 +54,9 @@ pub fn head(size: u32, nlocals: u16, nregs: u16, rlen: u16, ilen: u32) -> Vec<u8
     head
 }
 
+/// Where a record's header has its number of locals.
+pub const NLOCALS: Range<usize> = 4..6;
+
 /// A record of this code, with constants and symbols as bytes behind their counts.
 pub fn record(rlen: u16, code: &[u8], constants: &[&[u8]], symbols: &[&[u8]]) -> Vec<u8> {
     let mut rest = code.to_vec();
@@ -88,8 +91,17 @@ const LAST_SIZE: u32 = 0x1100_0000;
 
 const RECORDS: usize = 1_024;
 
-/// The opcode that makes a block of a child.
-const LAMBDA: u8 = 97;
+/// Opcodes, by their names.
+pub const LOADNIL: u8 = 17;
+pub const GETIDX0: u8 = 36;
+pub const SSEND0: u8 = 48;
+pub const SEND0: u8 = 51;
+pub const RETURN: u8 = 61;
+pub const LAMBDA: u8 = 97;
+pub const BLOCK: u8 = 98;
+pub const TDEF: u8 = 107;
+pub const SDEF: u8 = 108;
+pub const STOP: u8 = 118;
 
 /// How many records share their code, and the bytes of it: fewer for the model, which is slow.
 ///
@@ -189,22 +201,26 @@ pub fn tree(wide: bool) -> Vec<u8> {
     file(&[irep(&content)])
 }
 
+/// The steps that enter the next record of a chain: the child stands second, or third behind a symbol.
+const ENTERING: [&[u8]; 3] = [&[LAMBDA, 0, 0], &[TDEF, 0, 0, 0], &[SDEF, 0, 0, 0]];
+
 /// A chain of 1,024 records, each with a step that enters the next one; with names, with lines.
 pub fn chain(names: bool, lines: bool) -> Vec<u8> {
     let mut records = Vec::new();
     for number in 1..=RECORDS {
         let is_last = number == RECORDS;
-        let code: &[u8] = if is_last {
-            &[118]
-        } else {
-            &[LAMBDA, 0, 0, 118]
+        let enters = match is_last {
+            true => &[],
+            false => ENTERING[number % ENTERING.len()],
         };
-        let rlen = u16::from(!is_last);
-        // Four zeros are no constants and no symbols.
-        let size = 20 + code.len() as u32;
-        records.extend(head(size, 2, 1, rlen, code.len() as u32));
-        records.extend(code);
-        records.extend([0; 4]);
+        let mut record = record(
+            u16::from(!is_last),
+            &[enters, &[STOP]].concat(),
+            &[],
+            &[b""],
+        );
+        record[NLOCALS].copy_from_slice(&2u16.to_be_bytes());
+        records.extend(record);
     }
     let mut sections = vec![irep(&records)];
     if names {
@@ -214,6 +230,36 @@ pub fn chain(names: bool, lines: bool) -> Vec<u8> {
         sections.push(dbg(RECORDS));
     }
     file(&sections)
+}
+
+/// Where the code of a file's first record begins.
+pub const FIRST_CODE: usize = 20 + 12 + 16;
+
+/// The symbols of a record with the newer opcodes.
+pub const NEWER_SYMBOLS: [&[u8]; 3] = [b"count", b"rim", b"round"];
+
+/// The newer opcodes in a record of these symbols and two children, then STOP.
+#[rustfmt::skip]
+pub const NEWER: [u8; 18] = [
+    GETIDX0, 3, 1,
+    SSEND0, 4, 2,
+    SEND0, 3, 0,
+    TDEF, 4, 1, 0,
+    SDEF, 3, 2, 1,
+    STOP,
+];
+
+/// A file with the newer opcodes: record 0 defines a method by record 1, which has a block, record 2, and a method by record 3.
+pub fn newer() -> Vec<u8> {
+    let mut main = record(2, &NEWER, &[], &NEWER_SYMBOLS);
+    main[NLOCALS].copy_from_slice(&3u16.to_be_bytes());
+    let leaf = record(0, &[LOADNIL, 1, RETURN, 1], &[], &[]);
+    let parent = record(1, &[BLOCK, 1, 0, RETURN, 1], &[], &[]);
+    let mut names = vec![0, 0, 0, 2, 0, 4];
+    names.extend(b"rods\0\x05pitch");
+    names.extend([0, 0, 0, 1]);
+    let records = [main, parent, leaf.clone(), leaf].concat();
+    file(&[irep(&records), section(b"LVAR", &names)])
 }
 
 /// One string, and a record's one local variable named by it, so many times.
