@@ -2,11 +2,12 @@
 
 use crate::Stop;
 use crate::args::Args;
-use crate::generate::Generator;
+use crate::generate::{Generator, all_steps};
 use crate::load::{ANSWERS, at_work, corpus, difference, garbage, other_sizes, watch};
+use crate::newer::NEWER;
 use crate::rng::Rng;
 use crate::subject::{Subject, first_difference, subjects};
-use model::{Refusal, Sizes};
+use model::{OPCODES, Refusal, Sizes};
 use std::collections::BTreeMap;
 
 /// What examination answers on a file of the corpus, by the corpus's own description.
@@ -28,6 +29,7 @@ pub fn compare(args: &Args) -> Result<(), Stop> {
     let subjects = subjects();
     let corpus = corpus();
     let mut by_number = BTreeMap::<Refusal, [u64; 2]>::new();
+    let mut by_newer = ByNewer::default();
     for (i, (name, file)) in corpus.iter().enumerate() {
         let mut rng = Rng::new(seed, u64::MAX - i as u64);
         let [fitting, _] =
@@ -52,6 +54,7 @@ pub fn compare(args: &Args) -> Result<(), Stop> {
         let mut rng = Rng::new(!seed, index);
         let answers = one(&subjects, &file, &mut rng)
             .map_err(|why| difference(&format!("seed {seed} index {index}"), &file, &why))?;
+        count_newer(&mut by_newer, &file, answers[0]);
         for (side, answer) in answers.into_iter().enumerate() {
             by_number.entry(answer).or_default()[side] += 1;
         }
@@ -67,8 +70,30 @@ pub fn compare(args: &Args) -> Result<(), Stop> {
         };
         println!("  {name:<11}{fitting:>9}{other:>9}");
     }
+    println!("files that have a newer opcode, passed and refused 17:");
+    for (opcode, [passed, refused]) in NEWER.into_iter().zip(by_newer) {
+        println!("  {:<11}{passed:>9}{refused:>9}", OPCODES[opcode].name);
+    }
     println!("no difference");
     Ok(())
+}
+
+/// The files that have each of the newer opcodes, those that pass and those that meet 17.
+type ByNewer = [[u64; 2]; NEWER.len()];
+
+fn count_newer(counts: &mut ByNewer, file: &[u8], answer: Refusal) {
+    let side = match answer {
+        0 => 0,
+        17 => 1,
+        _ => return,
+    };
+    let rows = model::read(file, [usize::MAX; 9]).rows;
+    let opcodes: Vec<usize> = all_steps(file, &rows)
+        .map(|(_, at)| usize::from(file[at]))
+        .collect();
+    for (count, opcode) in counts.iter_mut().zip(NEWER) {
+        count[side] += u64::from(opcodes.contains(&opcode));
+    }
 }
 
 /// Holds every subject against the model on one file; answers the numbers over tables that fit and over other sizes.

@@ -3,11 +3,11 @@
 use crate::Stop;
 use crate::args::Args;
 use crate::examine::of_corpus;
-use crate::generate::Generator;
+use crate::generate::{Generator, steps};
 use crate::load::{ANSWERS, at_work, corpus, difference, garbage, hex, other_sizes, watch};
 use crate::rng::Rng;
 use crate::subject::{Model, Subject, first_difference, subjects};
-use model::{Refusal, Sizes};
+use model::{OPCODES, Refusal, Rows, Sizes};
 use std::collections::BTreeMap;
 
 #[derive(Default)]
@@ -19,6 +19,8 @@ struct Counts {
     choices: u64,
     /// Runs by the number of frames left; the last counts those of more.
     by_frames: [u64; 5],
+    /// Frames that are left, by the opcode that they were entered at.
+    by_entry: BTreeMap<&'static str, u64>,
 }
 
 /// `compare follow`
@@ -81,8 +83,8 @@ pub fn compare(args: &Args) -> Result<(), Stop> {
     println!("  finished   {:>9}", counts.finished);
     println!("  with a line{:>9}", counts.with_line);
     println!(
-        "  by frames, from 0 to 3 and more: {:?}\nno difference",
-        counts.by_frames
+        "  by frames, from 0 to 3 and more: {:?}\n  frames by the opcode of their entry: {:?}\nno difference",
+        counts.by_frames, counts.by_entry
     );
     Ok(())
 }
@@ -165,6 +167,25 @@ pub fn frame_words(records: usize, rng: &mut Rng) -> usize {
     }
 }
 
+/// The instructions at which the frames but the lowest were entered: each stands before the offset of the frame below.
+fn entries<'a>(file: &'a [u8], rows: &Rows, frames: &[u32], number: u32) -> Vec<&'a [u8]> {
+    let below = frames
+        .chunks_exact(2)
+        .take(number.saturating_sub(1) as usize);
+    below
+        .map(|frame| entry(file, rows, frame[0], frame[1] as usize))
+        .collect()
+}
+
+/// The instruction of a record that stands before an offset.
+fn entry<'a>(file: &'a [u8], rows: &Rows, record: u32, offset: usize) -> &'a [u8] {
+    let record = &rows.records.rows[record as usize];
+    let end = record.place as usize + offset;
+    let before = steps(file, record).into_iter().filter(|at| *at < end);
+    let last = before.max();
+    &file[last.expect("a frame with one above it stands behind an instruction")..end]
+}
+
 /// Holds every subject against the model on one file, over some choices, sizes and frame table.
 fn one(
     subjects: &[Box<dyn Subject>],
@@ -173,7 +194,8 @@ fn one(
     counts: &mut Counts,
 ) -> Result<(), String> {
     at_work(file);
-    let needed = model::read(file, [usize::MAX; 9]).rows.used();
+    let rows = model::read(file, [usize::MAX; 9]).rows;
+    let needed = rows.used();
     let sizes = if rng.one_in(8) {
         other_sizes(needed, rng)
     } else {
@@ -216,6 +238,48 @@ fn one(
         counts.finished += u64::from(finished);
         counts.with_line += u64::from(found);
         counts.by_frames[frames.min(4) as usize] += 1;
+        for step in entries(file, &rows, &right_frames, frames) {
+            let name = OPCODES[usize::from(step[0])].name;
+            *counts.by_entry.entry(name).or_default() += 1;
+        }
     }
     Ok(())
+}
+
+#[cfg(test)]
+mod tests {
+    use super::*;
+
+    /// The entries of the frames that are left after runs of files from a seed.
+    fn entries_of_runs(files: u64) -> Vec<Vec<u8>> {
+        let generator = Generator { corpus: Vec::new() };
+        let mut all = Vec::new();
+        for index in 0..files {
+            let file = generator.runnable(1, index);
+            let rows = model::read(&file, [usize::MAX; 9]).rows;
+            let sizes = Sizes::of_rows(rows.used());
+            let words = 2 * rows.used()[0];
+            let choices = choices_of(&file, &sizes, words, &mut Rng::new(!1, index));
+            let right = model::follow(&file, &sizes, words, &choices);
+            let entries = entries(&file, &rows, &right.frame_table, right.frames);
+            all.extend(entries.into_iter().map(<[u8]>::to_vec));
+        }
+        all
+    }
+
+    #[test]
+    fn runs_enter_at_every_child_opcode() {
+        let entries = entries_of_runs(2_000);
+        let at = |name: &'static str| {
+            let is_such = move |step: &&Vec<u8>| OPCODES[usize::from(step[0])].name == name;
+            entries.iter().filter(is_such)
+        };
+        for name in ["LAMBDA", "BLOCK", "METHOD", "EXEC", "TDEF", "SDEF"] {
+            assert!(at(name).count() > 0, "{name}");
+        }
+        // The symbol's number is not the child's.
+        for name in ["TDEF", "SDEF"] {
+            assert!(at(name).any(|step| step[2] != step[3]), "{name}");
+        }
+    }
 }

@@ -1,7 +1,8 @@
 //! Files from a seed: valid, damaged and at the boundaries of the papers.
 
+use crate::newer::{CHILD_THIRD, NEWER};
 use crate::rng::Rng;
-use model::{Flow, HEADER, OPCODES, Role, flow, roles};
+use model::{Flow, HEADER, OPCODES, Record, Role, Rows, bound, flow, roles};
 
 /// Makes files; the corpus is the stock of real ones.
 pub struct Generator {
@@ -27,6 +28,12 @@ pub const FAMILIES: [&str; 13] = [
 
 /// The family that meets 27 and 28; the others have the ident and no size above their length.
 const IDENT_AND_SIZE: usize = 12;
+
+/// JMP, JMPIF, JMPNOT, JMPNIL and JMPUW.
+const JUMPS: [usize; 5] = [38, 39, 40, 41, 42];
+
+/// LAMBDA, BLOCK, METHOD and EXEC, whose second operand is a child.
+const CHILD_SECOND: [usize; 4] = [97, 98, 99, 105];
 
 impl Generator {
     /// The file of a seed and an index, with its family.
@@ -141,11 +148,11 @@ struct Seen {
     rlen: usize,
 }
 
-fn be2(n: usize) -> [u8; 2] {
+pub fn be2(n: usize) -> [u8; 2] {
     (n as u16).to_be_bytes()
 }
 
-fn be4(n: usize) -> [u8; 4] {
+pub fn be4(n: usize) -> [u8; 4] {
     (n as u32).to_be_bytes()
 }
 
@@ -167,7 +174,7 @@ fn section(mark: &[u8; 4], size: usize, content: &[u8]) -> Vec<u8> {
 }
 
 /// A section with its exact size.
-fn exact(mark: &[u8; 4], content: &[u8]) -> Vec<u8> {
+pub fn exact(mark: &[u8; 4], content: &[u8]) -> Vec<u8> {
     section(mark, content.len() + 8, content)
 }
 
@@ -212,6 +219,22 @@ fn begins(code: &[u8]) -> Vec<usize> {
     begins
 }
 
+/// The places of a record's instructions in the file, as far as they are whole.
+pub fn steps(file: &[u8], record: &Record) -> Vec<usize> {
+    let place = record.place as usize;
+    let begins = begins(&file[place..place + record.ilen as usize]).into_iter();
+    begins.map(|begin| place + begin).collect()
+}
+
+/// The places of all instructions of a file, with their records.
+pub fn all_steps<'a>(file: &'a [u8], rows: &'a Rows) -> impl Iterator<Item = (&'a Record, usize)> {
+    let records = rows.records.rows.iter();
+    records.flat_map(|record| {
+        let steps = steps(file, record).into_iter();
+        steps.map(move |at| (record, at))
+    })
+}
+
 impl Maker {
     fn odd(&mut self) -> bool {
         let times = self.odd;
@@ -222,6 +245,11 @@ impl Maker {
     fn small(&mut self, bound: usize) -> usize {
         let bound = self.rng.between(1, bound);
         self.rng.below(bound)
+    }
+
+    /// A number that is 0 half of the time, and else small.
+    fn few_or_none(&mut self) -> usize {
+        if self.rng.one_in(2) { self.small(8) } else { 0 }
     }
 
     /// A count or size, odd once in a while.
@@ -379,10 +407,8 @@ impl Maker {
         while opcodes.len() < number {
             let mut opcode = self.rng.below(OPCODES.len());
             if self.sound && self.rng.one_in(2) {
-                // Jumps and child opcodes.
-                opcode = self
-                    .rng
-                    .pick(&[38, 39, 40, 41, 42, 97, 98, 99, 105, 97, 105]);
+                let often = self.rng.pick(&[&JUMPS[..], &CHILD_SECOND, &NEWER]);
+                opcode = self.rng.pick(often);
             }
             if fits(opcode) {
                 opcodes.push(opcode);
@@ -452,8 +478,17 @@ impl Maker {
         } else {
             0
         };
-        let constants = if self.rng.one_in(2) { self.small(8) } else { 0 };
-        let symbols = if self.rng.one_in(2) { self.small(8) } else { 0 };
+        let symbols = if self.sound && rlen > 0 {
+            // TDEF and SDEF have a symbol beside their child.
+            1 + self.small(8)
+        } else {
+            self.few_or_none()
+        };
+        let constants = if self.sound && self.rng.one_in(4) {
+            symbols + self.small(4)
+        } else {
+            self.few_or_none()
+        };
         let (code, begins) = match code {
             Some(code) => (code.to_vec(), vec![0]),
             None if !self.sound && self.rng.one_in(4) => (self.code(), vec![0]),
@@ -1236,20 +1271,19 @@ impl Maker {
     /// Changes one thing that examination looks at, in a record of the file as it loads.
     fn flaw(&mut self, file: &mut [u8]) {
         let reading = model::read(file, [usize::MAX; 9]);
-        let records = reading.rows.records.rows;
+        let records = &reading.rows.records.rows;
         if reading.end.is_err() || records.is_empty() {
             return;
         }
-        let record = records[self.rng.below(records.len())];
+        let record = self.rng.pick(records);
         let place = record.place as usize;
         let ilen = record.ilen as usize;
-        let steps = begins(&file[place..place + ilen]);
-        let Some(step) = (!steps.is_empty()).then(|| self.rng.pick(&steps)) else {
+        let steps = steps(file, &record);
+        let Some(last) = steps.last().copied() else {
             return;
         };
-        let last = place + steps[steps.len() - 1];
-        let at = place + step;
-        match self.rng.below(16) {
+        let at = self.rng.pick(&steps);
+        match self.rng.below(20) {
             0 => {
                 // The number of children.
                 let rlen = record.rlen as usize + self.rng.pick(&[1, 2, 65_535, 65_534]);
@@ -1263,11 +1297,8 @@ impl Maker {
             }
             4..=7 => self.flaw_operand(file, at, &record),
             8 | 9 => {
-                let jumps: Vec<usize> = steps
-                    .iter()
-                    .map(|step| place + step)
-                    .filter(|at| (38..=42).contains(&file[*at]))
-                    .collect();
+                let mut jumps = steps;
+                jumps.retain(|at| JUMPS.contains(&usize::from(file[*at])));
                 if !jumps.is_empty() {
                     let jump = self.rng.pick(&jumps);
                     self.flaw_jump(file, jump, ilen);
@@ -1287,21 +1318,41 @@ impl Maker {
                 let at = place + self.rng.below(ilen);
                 file[at] = self.rng.byte();
             }
+            14..=17 => self.flaw_newer(file, &reading.rows),
             _ => self.flaw_map(file),
         }
     }
 
-    /// An operand of an instruction: at its bound, beside it, or any.
-    fn flaw_operand(&mut self, file: &mut [u8], at: usize, record: &model::Record) {
+    /// An operand of a newer opcode in any record, of TDEF and SDEF half of the time.
+    fn flaw_newer(&mut self, file: &mut [u8], rows: &Rows) {
+        let opcodes = self.rng.pick(&[&NEWER[..], &CHILD_THIRD]);
+        let newer: Vec<(Record, usize)> = all_steps(file, rows)
+            .filter(|(_, at)| opcodes.contains(&usize::from(file[*at])))
+            .map(|(record, at)| (*record, at))
+            .collect();
+        if !newer.is_empty() {
+            let (record, at) = self.rng.pick(&newer);
+            self.flaw_operand(file, at, &record);
+        }
+    }
+
+    /// An operand of an instruction that has a role: at or beside its bound, or now and then another role's.
+    fn flaw_operand(&mut self, file: &mut [u8], at: usize, record: &Record) {
         let roles = roles(&OPCODES[usize::from(file[at])]);
-        let operand = self.rng.below(2);
-        let bound = match roles[operand] {
-            Role::Plain => return,
-            Role::Register => record.nregs,
-            Role::Pool => record.pool.number,
-            Role::Symbol => record.symbols.number,
-            Role::Child => record.rlen,
+        let held: Vec<usize> = (0..roles.len())
+            .filter(|operand| roles[*operand] != Role::Plain)
+            .collect();
+        if held.is_empty() {
+            return;
+        }
+        let operand = self.rng.pick(&held);
+        let role = if self.rng.one_in(3) {
+            self.rng
+                .pick(&[Role::Register, Role::Pool, Role::Symbol, Role::Child])
+        } else {
+            roles[operand]
         };
+        let bound = bound(role, record).unwrap_or(0);
         let number = (bound + self.rng.pick(&[0, 0, 1])).saturating_sub(self.rng.pick(&[0, 0, 1]));
         // An operand of one byte does not reach a higher bound.
         file[at + 1 + operand] = number.min(255) as u8;
@@ -1437,6 +1488,14 @@ mod tests {
         }
     }
 
+    #[test]
+    fn opcodes_have_their_names() {
+        let jumps = JUMPS.map(|opcode| OPCODES[opcode].name);
+        assert_eq!(jumps, ["JMP", "JMPIF", "JMPNOT", "JMPNIL", "JMPUW"]);
+        let names = CHILD_SECOND.map(|opcode| OPCODES[opcode].name);
+        assert_eq!(names, ["LAMBDA", "BLOCK", "METHOD", "EXEC"]);
+    }
+
     /// The texts of a file's pool strings, where it loads.
     fn pool_texts(file: &[u8]) -> Vec<&[u8]> {
         let reading = model::read(file, [usize::MAX; 9]);
@@ -1469,6 +1528,76 @@ mod tests {
             ];
             for is_such in shapes {
                 assert!(texts.iter().any(|text| is_such(text)));
+            }
+        }
+    }
+
+    /// Files that load and pass or meet 17, with their rows and whether they meet it.
+    fn passing_or_17(number: u64) -> Vec<(Vec<u8>, Rows, bool)> {
+        let generator = generator();
+        let files = (0..number).map(|index| generator.examinable(1, index));
+        let answered = files.filter_map(|file| {
+            let reading = model::read(&file, [usize::MAX; 9]);
+            reading.end.ok()?;
+            let answer = model::passes(&file, &reading.rows);
+            matches!(answer, Ok(()) | Err(17)).then_some((file, reading.rows, answer.is_err()))
+        });
+        answered.collect()
+    }
+
+    /// Whether an operand of a file is not below its bound, where one opcode has these roles.
+    fn meets_17(file: &[u8], rows: &Rows, opcode: usize, other: [Role; 3]) -> bool {
+        all_steps(file, rows).any(|(record, at)| {
+            let number = usize::from(file[at]);
+            let roles = if number == opcode {
+                other
+            } else {
+                roles(&OPCODES[number])
+            };
+            let operands = model::fetch(&file[at..]).unwrap().operands();
+            let mut held = operands.into_iter().zip(roles);
+            held.any(|(operand, role)| bound(role, record).is_some_and(|bound| operand >= bound))
+        })
+    }
+
+    /// The roles of an opcode with another one for one operand behind the first.
+    fn mistaken_roles(opcode: usize) -> Vec<[Role; 3]> {
+        use Role::*;
+        let right = roles(&OPCODES[opcode]);
+        let operands = OPCODES[opcode].kind.size() - 1;
+        let changes = (1..operands)
+            .flat_map(|operand| [Plain, Register, Pool, Symbol, Child].map(|role| (operand, role)));
+        let mistaken = changes.filter(|(operand, role)| right[*operand] != *role);
+        mistaken
+            .map(|(operand, role)| {
+                let mut roles = right;
+                roles[operand] = role;
+                roles
+            })
+            .collect()
+    }
+
+    #[test]
+    fn mistaken_roles_are_seen() {
+        use Role::*;
+        let files = passing_or_17(6_000);
+        let sees = |opcode: usize, roles: [Role; 3]| {
+            let is_otherwise = |(file, rows, refused): &(Vec<u8>, Rows, bool)| {
+                meets_17(file, rows, opcode, roles) != *refused
+            };
+            let seen = files.iter().any(is_otherwise);
+            assert!(seen, "{} {roles:?}", OPCODES[opcode].name);
+        };
+        for opcode in CHILD_THIRD {
+            sees(opcode, [Register, Child, Plain]);
+            sees(opcode, [Register, Child, Symbol]);
+        }
+        // These keep their roles, as does MATCHERR, which has no second operand.
+        let keep = ["BLKCALL", "ADDILV", "SUBILV"];
+        let others = (0..OPCODES.len()).filter(|opcode| keep.contains(&OPCODES[*opcode].name));
+        for opcode in NEWER.into_iter().chain(others) {
+            for roles in mistaken_roles(opcode) {
+                sees(opcode, roles);
             }
         }
     }

@@ -12,6 +12,7 @@ mod held;
 mod lines;
 mod load;
 mod lookups;
+mod newer;
 mod oracle;
 #[cfg(feature = "port")]
 mod port;

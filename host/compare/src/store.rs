@@ -46,6 +46,7 @@ use crate::held::Held;
 use crate::lines;
 use crate::load::{ANSWERS, Counts, corpus, garbage, one, other_sizes};
 use crate::lookups;
+use crate::newer;
 use crate::oracle::{self, NO_ROW, Outcome, TOO_LONG};
 use crate::rng::Rng;
 use crate::subject::{Answer, Fetch, Follow, Found, LOOKUPS, Lookup, Model, Subject, subjects};
@@ -80,6 +81,7 @@ pub fn write(args: &Args) -> Result<(), Stop> {
     let mut counts = Counts::default();
     let mut calls = Store::default();
     samples(&mut calls).map_err(Stop::Difference)?;
+    newer_samples(&mut calls).map_err(Stop::Difference)?;
     loads(&mut calls, seed, count as usize, &mut counts).map_err(Stop::Difference)?;
     examinable_files(&mut calls, seed)?;
     let mut lookups = Store::default();
@@ -311,6 +313,24 @@ fn of_records(records: u32) -> [u32; 9] {
     [records, 0, 0, 0, 0, 0, 0, 0, 0]
 }
 
+/// Files with the newer opcodes, examined and followed, with the answers of request c).
+fn newer_samples(store: &mut Store) -> Result<(), String> {
+    for (file, refusal) in newer::examined() {
+        let used = model::read(&file, [usize::MAX; 9]).rows.used();
+        let rows = match refusal {
+            0 => used.map(|rows| rows as u32),
+            _ => [0; 9],
+        };
+        sample_over(store, 7, &Sizes::of_rows(used), &file, refusal, rows)?;
+    }
+    let (file, runs) = newer::followed();
+    for (choices, numbers) in runs {
+        sample_run(store, &file, choices, numbers)?;
+    }
+    store.bytes(6, b"newer opcodes, examined and followed");
+    Ok(())
+}
+
 /// A load or an examination over tables of one row each: the refusal's number or 0, and the rows.
 fn sample(
     store: &mut Store,
@@ -319,8 +339,19 @@ fn sample(
     refusal: u32,
     rows: [u32; 9],
 ) -> Result<(), String> {
-    let sizes = Sizes::of_rows([1; 9]);
-    let mut tables = garbage(&sizes, &mut Rng::new(0, 0));
+    sample_over(store, kind, &Sizes::of_rows([1; 9]), file, refusal, rows)
+}
+
+/// A load or an examination over tables of these sizes.
+fn sample_over(
+    store: &mut Store,
+    kind: u32,
+    sizes: &Sizes,
+    file: &[u8],
+    refusal: u32,
+    rows: [u32; 9],
+) -> Result<(), String> {
+    let mut tables = garbage(sizes, &mut Rng::new(0, 0));
     let answer = match kind {
         2 => Model.load(file, &mut tables),
         _ => Model.examine(file, &mut tables),
@@ -329,20 +360,21 @@ fn sample(
         return Err(format!("a sample's answer is {answer:?}"));
     }
     store.bytes(1, file);
-    store.call(kind, &sizes, refusal, &rows, sum(&tables, &[]));
+    store.call(kind, sizes, refusal, &rows, sum(&tables, &[]));
     Ok(())
 }
 
-/// A run that is not refused, with place for one frame.
+/// A run that is not refused, over tables of a row at least and with place for a frame of each record.
 fn sample_run(
     store: &mut Store,
     file: &[u8],
     choices: &[u8],
     numbers: [u32; 6],
 ) -> Result<(), String> {
-    let sizes = Sizes::of_rows([1; 9]);
+    let used = model::read(file, [usize::MAX; 9]).rows.used();
+    let sizes = Sizes::of_rows(used.map(|rows| rows.max(1)));
     let mut tables = garbage(&sizes, &mut Rng::new(0, 0));
-    let mut frames = vec![1; 2];
+    let mut frames = vec![1; 2 * used[RECORDS]];
     let answer = Model.follow(file, &mut tables, &mut frames, choices);
     if (answer.refusal, answer.numbers) != (0, numbers) {
         return Err(format!("a sample's answer is {answer:?}"));

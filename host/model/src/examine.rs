@@ -53,6 +53,17 @@ pub(crate) fn code<'a>(file: &'a [u8], record: &Record) -> &'a [u8] {
     &file[record.place as usize..][..record.ilen as usize]
 }
 
+/// What an operand is below by its role: "nregs, pool count, symbol count or rlen", and nothing where it is plain.
+pub fn bound(role: Role, record: &Record) -> Option<u32> {
+    match role {
+        Role::Plain => None,
+        Role::Register => Some(record.nregs),
+        Role::Pool => Some(record.pool.number),
+        Role::Symbol => Some(record.symbols.number),
+        Role::Child => Some(record.rlen),
+    }
+}
+
 /// An instruction of a record.
 #[derive(Debug, Clone, Copy)]
 pub(crate) struct Step {
@@ -76,6 +87,13 @@ impl Step {
             i64::from(distance) - 65_536
         };
         Some(self.next as i64 + signed)
+    }
+
+    /// "A child opcode is one with a child operand, which numbers the child"; "TDEF and SDEF can be entered like METHOD."
+    pub fn child(&self) -> Option<u32> {
+        let roles = roles(&OPCODES[self.opcode]);
+        let at = roles.iter().position(|role| *role == Role::Child)?;
+        Some(self.operands[at])
     }
 }
 
@@ -120,14 +138,7 @@ fn examine_record(file: &[u8], rows: &Rows, record: &Record) -> Result<(), Refus
     for step in &steps {
         let opcode = &OPCODES[step.opcode];
         for (operand, role) in step.operands.into_iter().zip(roles(opcode)) {
-            let bound = match role {
-                Role::Plain => continue,
-                Role::Register => record.nregs,
-                Role::Pool => record.pool.number,
-                Role::Symbol => record.symbols.number,
-                Role::Child => record.rlen,
-            };
-            if operand >= bound {
+            if bound(role, record).is_some_and(|bound| operand >= bound) {
                 return Err(17);
             }
         }

@@ -2,7 +2,7 @@
 
 use crate::Refusal;
 use crate::examine::{child, code, passes, step_at};
-use crate::insn::{Flow, OPCODES, Role, flow, roles};
+use crate::insn::{Flow, OPCODES, flow};
 use crate::line::line_at;
 use crate::load::read;
 use crate::rows::{Loaded, Rows, Sizes};
@@ -146,12 +146,12 @@ fn take(
         }
         Choice::Enter => {
             // "at a child opcode the frame passes to its next offset and (child, 0) is put on top"
-            if roles(opcode)[1] != Role::Child {
+            let Some(entered) = step.child() else {
                 return go_on(frames);
-            }
+            };
             let rlens: Vec<u32> = rows.records.rows.iter().map(|r| r.rlen).collect();
             frames.push((number, step.next));
-            frames.push((child(&rlens, number, step.operands[1]), 0));
+            frames.push((child(&rlens, number, entered), 0));
         }
         Choice::Caught(handler) => {
             // "if h < clen the offset becomes handler h's target, from any instruction"

@@ -109,12 +109,7 @@ pub enum Role {
 
 /// The roles of an opcode's operands.
 pub fn roles(opcode: &Opcode) -> [Role; 3] {
-    [
-        first_role(opcode),
-        // "All else is plain, and in the 13 opcodes without a comment all but the first operand."
-        second_role(opcode),
-        Role::Plain,
-    ]
+    [first_role(opcode), second_role(opcode), third_role(opcode)]
 }
 
 /// "the first operand of B, BB, BBB, BS, BSS is a register, except in" four opcodes.
@@ -140,6 +135,19 @@ fn second_role(opcode: &Opcode) -> Role {
         "LOADSYM" | "SSEND" | "SSENDB" | "SEND" | "SENDB" | "KEY_P" | "KARG" | "CLASS"
         | "MODULE" | "DEF" | "ALIAS" => Role::Symbol,
         "LAMBDA" | "BLOCK" | "METHOD" | "EXEC" => Role::Child,
+        // Paper 02: "GETIDX0's second operand is a register."
+        "GETIDX0" => Role::Register,
+        // "In SSEND0 and SEND0 the second is a symbol. In TDEF and SDEF the second is a symbol"
+        "SSEND0" | "SEND0" | "TDEF" | "SDEF" => Role::Symbol,
+        // "All else is plain", and "The other opcodes without a comment keep paper 01's roles."
+        _ => Role::Plain,
+    }
+}
+
+/// "In TDEF and SDEF the second is a symbol and the third a child."
+fn third_role(opcode: &Opcode) -> Role {
+    match opcode.name {
+        "TDEF" | "SDEF" => Role::Child,
         _ => Role::Plain,
     }
 }

@@ -83,6 +83,29 @@ fn all_but_two_pass() {
     }
 }
 
+/// The opcodes of a record's instructions.
+fn opcodes(mut code: &[u8]) -> Vec<Opcode> {
+    let mut opcodes = Vec::new();
+    while let Ok(fetched) = fetch(code) {
+        opcodes.push(OPCODES[usize::from(code[0])]);
+        code = &code[fetched.kind().size()..];
+    }
+    opcodes
+}
+
+#[test]
+fn request_c_changes_no_answer() {
+    let newer = ["GETIDX0", "SSEND0", "SEND0", "TDEF", "SDEF"];
+    for (name, file) in corpus() {
+        let loaded = examine(&file, &exact(&file));
+        for record in 0..loaded.rows[0] {
+            let code = instructions(&file, &loaded.tables, record).unwrap();
+            let has_newer = |opcode: &Opcode| newer.contains(&opcode.name);
+            assert!(!opcodes(code.of(&file)).iter().any(has_newer), "{name}");
+        }
+    }
+}
+
 #[test]
 fn lookups_answer_throughout() {
     for (name, file) in corpus() {

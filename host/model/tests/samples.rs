@@ -254,6 +254,80 @@ fn instructions_that_do_not_pass() {
     }
 }
 
+/// A file whose first record has this code, five registers, three constants, four symbols and two children.
+fn with_children(code: &[u8]) -> Vec<u8> {
+    let constant: &[u8] = &[1, 0, 0, 0, 1];
+    let first = record([1, 5, 2], code, &[], &[constant; 3], &[&b"s"[..]; 4]);
+    let child = record([1, 1, 0], &[118], &[], &[], &[]);
+    file(&[irep(&[first, child.clone(), child])])
+}
+
+#[test]
+fn newer_opcodes_have_roles() {
+    for (code, number) in [
+        // "GETIDX0's second operand is a register."
+        (&[36, 4, 4, 118][..], 0),
+        (&[36, 5, 0, 118], 17),
+        (&[36, 0, 5, 118], 17),
+        (&[36, 0, 255, 118], 17),
+        // "In SSEND0 and SEND0 the second is a symbol."
+        (&[48, 4, 3, 118], 0),
+        (&[48, 5, 0, 118], 17),
+        (&[48, 0, 4, 118], 17),
+        (&[51, 4, 3, 118], 0),
+        (&[51, 5, 0, 118], 17),
+        (&[51, 0, 4, 118], 17),
+        // "In TDEF and SDEF the second is a symbol and the third a child."
+        (&[107, 4, 3, 1, 118], 0),
+        (&[107, 5, 0, 0, 118], 17),
+        (&[107, 0, 4, 0, 118], 17),
+        (&[107, 0, 0, 2, 118], 17),
+        (&[108, 4, 3, 1, 118], 0),
+        (&[108, 5, 0, 0, 118], 17),
+        (&[108, 0, 4, 0, 118], 17),
+        (&[108, 0, 0, 2, 118], 17),
+        // They do not end: 18 comes behind 17.
+        (&[107, 0, 0, 1], 18),
+        (&[107, 0, 0, 2], 17),
+        (&[108, 0, 0, 1], 18),
+        (&[108, 0, 0, 2], 17),
+    ] {
+        assert_eq!(examined(&with_children(code)), number, "{code:?}");
+    }
+}
+
+#[test]
+fn other_opcodes_without_a_comment_keep_their_roles() {
+    for (code, number) in [
+        (&[46, 4, 118][..], 0),
+        (&[46, 5, 118], 17),
+        (&[54, 4, 255, 118], 0),
+        (&[54, 5, 0, 118], 17),
+        (&[73, 4, 255, 255, 118], 0),
+        (&[73, 5, 0, 0, 118], 17),
+        (&[74, 4, 255, 255, 118], 0),
+        (&[74, 5, 0, 0, 118], 17),
+        (&[63], 0),
+        (&[64], 0),
+        (&[65], 0),
+        (&[66], 0),
+    ] {
+        assert_eq!(examined(&with_children(code)), number, "{code:?}");
+    }
+}
+
+#[test]
+fn children_stand_second_or_third() {
+    let with_child = |operand: usize| {
+        let opcodes = OPCODES.iter();
+        let such = opcodes.filter(|opcode| roles(opcode)[operand] == Role::Child);
+        such.map(|opcode| opcode.name).collect::<Vec<_>>()
+    };
+    assert!(with_child(0).is_empty());
+    assert_eq!(with_child(1), ["LAMBDA", "BLOCK", "METHOD", "EXEC"]);
+    assert_eq!(with_child(2), ["TDEF", "SDEF"]);
+}
+
 #[test]
 fn whole_trees() {
     assert!(is_whole(&[2, 0, 0]));
@@ -665,6 +739,20 @@ fn cuts_are_refused() {
     }
 }
 
+/// The frames that choices leave, of five at most.
+fn frames_after(file: &[u8], choices: &[u8]) -> Vec<u32> {
+    let followed = follow(file, &enough(), 10, choices);
+    assert_eq!(followed.loaded.refusal, 0);
+    let mut table = followed.frame_table;
+    assert!(
+        table[followed.frames as usize * 2..]
+            .iter()
+            .all(|w| *w == 0)
+    );
+    table.truncate(followed.frames as usize * 2);
+    table
+}
+
 #[test]
 fn frames_of_children() {
     let outer = record(
@@ -678,18 +766,7 @@ fn frames_of_children() {
     let inner = record([1, 2, 0], &[118], &[], &[], &[]);
     let last = record([1, 2, 0], &[0, 118], &[[0, 0, 0, 1]], &[], &[]);
     let file = file(&[irep(&[outer, middle, inner, last])]);
-    let frames = |choices: &[u8]| {
-        let followed = follow(&file, &enough(), 10, choices);
-        assert_eq!(followed.loaded.refusal, 0);
-        let mut table = followed.frame_table;
-        assert!(
-            table[followed.frames as usize * 2..]
-                .iter()
-                .all(|w| *w == 0)
-        );
-        table.truncate(followed.frames as usize * 2);
-        table
-    };
+    let frames = |choices: &[u8]| frames_after(&file, choices);
     assert_eq!(frames(&[]), [0, 0]);
     assert_eq!(frames(&[2]), [0, 3, 3, 0]);
     assert_eq!(frames(&[2, 0]), [0, 3, 3, 1]);
@@ -712,6 +789,34 @@ fn frames_of_children() {
     assert_eq!(refused(8, &[4, 5]), 21);
     assert_eq!(refused(8, &[4, 3, 0]), 21);
     assert_eq!(refused(7, &[5]), 14);
+}
+
+#[test]
+fn frames_of_tdef_and_sdef() {
+    let symbols = [&b"s"[..]; 3];
+    // TDEF with symbol 0 and child 1, SDEF with symbol 2 and child 0.
+    let outer = record(
+        [1, 2, 2],
+        &[107, 0, 0, 1, 108, 0, 2, 0, 118],
+        &[],
+        &[],
+        &symbols,
+    );
+    let middle = record([1, 2, 1], &[108, 0, 2, 0, 118], &[], &[], &symbols);
+    let inner = record([1, 2, 0], &[118], &[], &[], &[]);
+    let last = record([1, 2, 0], &[0, 118], &[], &[], &[]);
+    let file = file(&[irep(&[outer, middle, inner, last])]);
+    let frames = |choices: &[u8]| frames_after(&file, choices);
+    assert_eq!(frames(&[2]), [0, 4, 3, 0]);
+    assert_eq!(frames(&[2, 2]), [0, 4, 3, 1]);
+    assert_eq!(frames(&[2, 2, 0]), [0, 4]);
+    assert_eq!(frames(&[0]), [0, 4]);
+    assert_eq!(frames(&[1]), [0, 4]);
+    assert_eq!(frames(&[0, 2]), [0, 8, 1, 0]);
+    assert_eq!(frames(&[0, 2, 2]), [0, 8, 1, 4, 2, 0]);
+    assert_eq!(frames(&[0, 2, 2, 4]), [0, 8, 1, 4]);
+    assert_eq!(frames(&[2, 4, 2, 0]), [0, 8, 1, 4]);
+    assert_eq!(frames(&[0, 0, 2]), []);
 }
 
 /// The refusal of a file over enough rows, but for one table without any.

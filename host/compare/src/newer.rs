@@ -1,0 +1,230 @@
+//! Files with opcodes that insn.rs does not comment, and the answers of request c) of paper 02.
+
+use crate::generate::{be2, be4, exact, overwrite, state_size};
+use model::Refusal;
+
+const GETIDX0: u8 = 36;
+const MATCHERR: u8 = 46;
+const SSEND0: u8 = 48;
+const SEND0: u8 = 51;
+const BLKCALL: u8 = 54;
+const ADDILV: u8 = 73;
+const SUBILV: u8 = 74;
+const TDEF: u8 = 107;
+const SDEF: u8 = 108;
+const STOP: u8 = 118;
+
+/// The opcodes that have roles by request c).
+pub const NEWER: [usize; 5] = [
+    GETIDX0 as usize,
+    SSEND0 as usize,
+    SEND0 as usize,
+    TDEF as usize,
+    SDEF as usize,
+];
+
+/// Those of them whose third operand is a child.
+pub const CHILD_THIRD: [usize; 2] = [TDEF as usize, SDEF as usize];
+
+/// What the operands of a record's instructions are held against.
+#[derive(Clone, Copy)]
+struct Counts {
+    registers: u8,
+    constants: u8,
+    symbols: u8,
+    children: u8,
+}
+
+/// Counts that are all different, of which registers or children are most and constants less or more than symbols.
+const COUNTS: [Counts; 2] = [
+    Counts {
+        registers: 5,
+        constants: 3,
+        symbols: 4,
+        children: 2,
+    },
+    Counts {
+        registers: 2,
+        constants: 4,
+        symbols: 3,
+        children: 5,
+    },
+];
+
+/// The counts of a record whose code is STOP.
+const BARE: Counts = Counts {
+    registers: 1,
+    constants: 0,
+    symbols: 0,
+    children: 0,
+};
+
+/// The largest operand of one byte, which a plain one may be.
+const LARGEST: u8 = 255;
+
+/// A record with this code and these counts; its constants and symbols are empty texts.
+fn record(code: &[u8], counts: Counts) -> Vec<u8> {
+    let mut record = vec![0; 4];
+    for field in [1, counts.registers, counts.children, 0] {
+        record.extend(be2(field.into()));
+    }
+    record.extend(be4(code.len()));
+    record.extend(code);
+    record.extend(be2(counts.constants.into()));
+    record.extend([2, 0, 0, 0].repeat(counts.constants.into()));
+    record.extend(be2(counts.symbols.into()));
+    record.extend([0, 0, 0].repeat(counts.symbols.into()));
+    let size = record.len();
+    overwrite(&mut record, 0, &be4(size));
+    record
+}
+
+/// A file of these records and nothing else.
+fn file(records: &[Vec<u8>]) -> Vec<u8> {
+    let mut file = b"RITE0400\0\0\0\0\0\0\0\0\0\0\0\0".to_vec();
+    file.extend(exact(b"IREP", &[vec![0; 4], records.concat()].concat()));
+    file.extend(exact(b"END\0", &[]));
+    let size = file.len();
+    state_size(&mut file, size);
+    file
+}
+
+/// A file whose first record has this code and these counts, and its children nothing but STOP.
+fn coded(code: &[u8], counts: Counts) -> Vec<u8> {
+    let mut records = vec![record(code, counts)];
+    records.resize(1 + usize::from(counts.children), record(&[STOP], BARE));
+    file(&records)
+}
+
+/// The opcodes without a comment that have operands, and what each operand is below; a plain one is below nothing.
+fn limits(counts: Counts) -> [(u8, Vec<Option<u8>>); 9] {
+    let register = Some(counts.registers);
+    let symbol = Some(counts.symbols);
+    let child = Some(counts.children);
+    let plain = None;
+    [
+        // "GETIDX0's second operand is a register. In SSEND0 and SEND0 the second is a symbol."
+        (GETIDX0, vec![register, register]),
+        (SSEND0, vec![register, symbol]),
+        (SEND0, vec![register, symbol]),
+        // "In TDEF and SDEF the second is a symbol and the third a child."
+        (TDEF, vec![register, symbol, child]),
+        (SDEF, vec![register, symbol, child]),
+        // "The other opcodes without a comment keep paper 01's roles."
+        (MATCHERR, vec![register]),
+        (BLKCALL, vec![register, plain]),
+        (ADDILV, vec![register, plain, plain]),
+        (SUBILV, vec![register, plain, plain]),
+    ]
+}
+
+/// Files with one of these instructions, and the answers of their examination.
+pub fn examined() -> Vec<(Vec<u8>, Refusal)> {
+    let inside = COUNTS.into_iter().flat_map(|counts| {
+        let limits = limits(counts).into_iter();
+        limits.flat_map(move |(opcode, limits)| around(opcode, &limits, counts))
+    });
+    let last = [TDEF, SDEF].into_iter().flat_map(at_the_end);
+    inside.chain(last).collect()
+}
+
+/// Files whose code ends with an opcode that has a child and does not end: 18, and 17 before it.
+fn at_the_end(opcode: u8) -> [(Vec<u8>, Refusal); 2] {
+    let [counts, _] = COUNTS;
+    let with = |child: u8| coded(&[opcode, 0, 0, child], counts);
+    [(with(counts.children - 1), 18), (with(counts.children), 17)]
+}
+
+/// Files with an instruction whose operands are just below their limits, and with one operand at its limit.
+fn around(opcode: u8, limits: &[Option<u8>], counts: Counts) -> Vec<(Vec<u8>, Refusal)> {
+    let below = limits
+        .iter()
+        .map(|limit| limit.map_or(LARGEST, |limit| limit - 1));
+    let code: Vec<u8> = [opcode].into_iter().chain(below).chain([STOP]).collect();
+    let mut files = vec![(coded(&code, counts), 0)];
+    for (operand, limit) in limits.iter().enumerate() {
+        if let Some(limit) = *limit {
+            let mut code = code.clone();
+            code[1 + operand] = limit;
+            files.push((coded(&code, counts), 17));
+        }
+    }
+    files
+}
+
+/// A file whose TDEF and SDEF number children otherwise than their symbols: the rlens are 3, 1, 0, 0, 0.
+fn nested() -> Vec<u8> {
+    let outer = Counts {
+        registers: 1,
+        constants: 0,
+        symbols: 4,
+        children: 3,
+    };
+    let inner = Counts {
+        registers: 1,
+        constants: 0,
+        symbols: 2,
+        children: 1,
+    };
+    let code = [TDEF, 0, 0, 2, SDEF, 0, 3, 0, SDEF, 0, 2, 1, STOP];
+    let bare = record(&[STOP], BARE);
+    file(&[
+        record(&code, outer),
+        record(&[TDEF, 0, 1, 0, STOP], inner),
+        bare.clone(),
+        bare.clone(),
+        bare,
+    ])
+}
+
+/// A list of choices, and what its run answers: finished, record, offset, found, line and frames.
+type Run = (&'static [u8], [u32; 6]);
+
+/// A file with TDEF and SDEF and runs that enter through them: "TDEF and SDEF can be entered like METHOD."
+pub fn followed() -> (Vec<u8>, Vec<Run>) {
+    let at = |record: u32, offset: u32, frames: u32| [0, record, offset, 0, 0, frames];
+    let finished = [1, 0, 0, 0, 0, 0];
+    let runs: Vec<Run> = vec![
+        // TDEF: its child is the last, with number rlen - 1.
+        (&[2][..], at(4, 0, 2)),
+        (&[2, 0], at(0, 4, 1)),
+        (&[0], at(0, 4, 1)),
+        (&[1], at(0, 4, 1)),
+        // SDEF: its child is the first, which has a TDEF.
+        (&[0, 2], at(1, 0, 2)),
+        (&[0, 2, 2], at(2, 0, 3)),
+        (&[0, 2, 2, 4], at(1, 4, 2)),
+        (&[0, 2, 0], at(1, 4, 2)),
+        // The second SDEF: its child stands behind the first one's subtree.
+        (&[0, 0, 2], at(3, 0, 2)),
+        (&[0, 2, 4, 2], at(3, 0, 2)),
+        (&[2, 4, 2, 2, 0, 0, 2], at(3, 0, 2)),
+        (&[0, 0, 2, 4, 2], finished),
+    ];
+    (nested(), runs)
+}
+
+#[cfg(test)]
+mod tests {
+    use super::*;
+    use model::{OPCODES, Sizes};
+
+    #[test]
+    fn opcodes_have_their_names() {
+        let names = NEWER.map(|opcode| OPCODES[opcode].name);
+        assert_eq!(names, ["GETIDX0", "SSEND0", "SEND0", "TDEF", "SDEF"]);
+        let others = [MATCHERR, BLKCALL, ADDILV, SUBILV, STOP];
+        let names = others.map(|opcode| OPCODES[usize::from(opcode)].name);
+        assert_eq!(names, ["MATCHERR", "BLKCALL", "ADDILV", "SUBILV", "STOP"]);
+    }
+
+    #[test]
+    fn files_load_and_have_their_answers() {
+        for (file, refusal) in examined() {
+            let reading = model::read(&file, [usize::MAX; 9]);
+            assert_eq!(reading.end, Ok(()));
+            let lent = Sizes::of_rows(reading.rows.used());
+            assert_eq!(model::examine(&file, &lent).refusal, refusal);
+        }
+    }
+}
