@@ -96,6 +96,18 @@ module _ (c : List ℕ) (o : ℕ) (r : OpRow) (e : rowOf r ≡ opRow (byte c o))
       → m ≡ move (part c []) o go-on → m ≡ move (part c []) o jump
   jump-on k g = g ∙ sym on-is ∙ k ∙ jump-is
 
+-- which operand numbers a child; y, z: whether the second does, whether the third does
+module _ (v : RowView) {y : Bool} (ey : y ≡ isChild (v .second)) where
+  pub second-child : y ≡ true → 2 ≡ childAmong v
+  second-child h = rw (← ey, h)
+
+  module _ (h : y ≡ false) {z : Bool} (ez : z ≡ isChild (v .third)) where
+    pub third-child : z ≡ true → 3 ≡ childAmong v
+    third-child g = rw (← ey, h, ← ez, g)
+
+    pub no-child : z ≡ false → 0 ≡ childAmong v
+    no-child g = rw (← ey, h, ← ez, g)
+
 -- the child operand by its number, counted from 1
 abbrev childBy : List ℕ → ℕ → ℕ → Option ℕ
 childBy c o n = cond (eqb n 0) none (some (byte c (o + n)))
