@@ -7,6 +7,11 @@ ghost use Rattle.format.specs.Insn.{signed16};
 ghost use Rattle.format.specs.Pattern.{begins};
 ghost use Rattle.flags.specs.Flags.{Limits, Operand, operandBelow, Looked, bare, flagAt, Marked, landsFrom};
 
+// The flag of an instruction with an operand that meets 17, and of one whose target has to be tested.
+pub const HIGH: u8 = 2;
+
+pub const TARGETED: u8 = 3;
+
 // A byte as a number.
 fn wide(x: u8) -> usize
     ensures { λ r. ⌜ (r ≡ x) × (r < 256) ⌝ }
@@ -44,20 +49,20 @@ fn third_below(code: &[u8], at: usize, role: usize, limits: &[u32]) -> bool
     operand_below(code, at, role, limits)
 }
 
-// The flag of the instruction at `i`, by the digits of its opcode byte: 2 where an operand meets 17.
+// The flag of the instruction at `i`, by the digits of its opcode byte.
 pub fn flag_at(code: &[u8], i: usize, d: usize, limits: &[u32]) -> u8
     requires { ⌜ Limits (now limits) ⌝ }
     requires { ⌜ Looked (now code) i d ⌝ }
     ensures { λ r. ⌜ r ≡ flagAt (bare (now (limits .entry)) (now (code .entry))) i ⌝ }
 {
     if !operand_below(code, i + 1, d / FIRST % BASE, limits) {
-        return 2;
+        return HIGH;
     }
     if !operand_below(code, i + 2, d / SECOND % BASE, limits) {
-        return 2;
+        return HIGH;
     }
     if !third_below(code, i + 3, d / THIRD % BASE, limits) {
-        return 2;
+        return HIGH;
     }
     if i + d % SIZE < code.len() {
         return (d / INSIDE % BASE) as u8;

@@ -14,9 +14,10 @@ use Rattle.format.specs.Insn.{SSEND, SSEND0, SSENDB, SEND, SEND0, SENDB, BLKCAL
 use Rattle.format.specs.Insn.{LAMBDA, BLOCK, METHOD, CLASS, MODULE, EXEC, DEF, TDEF, SDEF, ALIAS, number, Kind, Z, B, BB, S, BBB, BS, W, BSS, Row}
 use Rattle.format.specs.Insn.{name, kind, roles, fields, table, row, operands, opcode, rowAt, operandsAt, rest}
 use Rattle.format.specs.Rules.{among, between, firstRole}
-use Rattle.format.specs.Pattern.{Record, Pattern, recAt}
+use Rattle.format.specs.Tree.{childOf}
+use Rattle.format.specs.Pattern.{Record, Pattern, recAt, rlens}
 use Rattle.format.specs.Exam.{Below, below, allBelow, operandsBelow}
-use Rattle.format.specs.Run.{enter, Frame, codeOf, into, move}
+use Rattle.format.specs.Run.{enter, Frame, frame, codeOf, into, move, oneStep}
 use Rattle.format.specs.Claim.{FrameHolds}
 use Rattle.format.proofs.Table.{both}
 use Rattle.runs.proofs.Operands.{below-bytes, child-bytes}
@@ -170,6 +171,13 @@ module _ (r : Record) (o : ℕ) where
   pub enter-method : opcode (r .code) o ≡ number METHOD → move r o enter ≡ into (byte (r .code) (o + 2)) (o + 3)
   unfolding move opcode rest row table
   enter-method m = let e = child-bytes (r .code) o in rw (e, m)
+
+-- so a run stands at the start of that child, over the frame that it left
+pub def-entered : (p : Pattern) (f : Frame) (under : List Frame) → IsDef (codeOf p f) (f .at)
+    → oneStep p (f ∷ under) enter
+    ≡ frame (childOf (rlens p) (f .rec) (byte (codeOf p f) (f .at + 3))) 0 ∷ frame (f .rec) (f .at + 4) ∷ under
+unfolding oneStep
+def-entered p f under i = rw (enter-def (recAt p (f .rec)) (f .at) i)
 
 -- "and the run guarantee": so in every frame of a run, by what demand 3 says of frames
 module _ {p : Pattern} {f : Frame} (h : FrameHolds p f) where

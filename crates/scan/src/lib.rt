@@ -1,4 +1,6 @@
 // Conditions 16 to 18 over the code of a record, with a flag for each byte.
+use flags::HIGH;
+use flags::TARGETED;
 use flags::flag_at;
 use flags::lands_at;
 use opcode::digits;
@@ -59,13 +61,13 @@ pub fn exam_code(code: &[u8], flags: &mut [u8], limits: &[u32]) -> u8
     let mut i: usize = 0;
     while i < code.len() {
         let v = flags[i];
-        if v < 2 {
+        if v < HIGH {
             i += 1;
         } else {
-            if v == 2 {
+            if v == HIGH {
                 return 17;
             }
-            if v > 3 {
+            if v > TARGETED {
                 return 18;
             }
             if !lands_at(code, flags, i + digits(code[i]) % SIZE) {
