@@ -50,6 +50,11 @@ pub below-none : (l : List ℕ) {c : List ℕ} {i x : ℕ} → Operand c i x →
 below-none l {c} {i} {x = zero} p h = below-plain l c i 0 refl
 below-none l {x = suc x} p h = absurd (omega (arith, p .there (omega arith)))
 
+-- the flag of an instruction whose operands are below their limits
+pub record Passes (l c : List ℕ) (o d : ℕ) : Type 0 where
+  pub inside : o + d % 64 < length c → d / 32768 % 8 ≡ flagAt (bare l c) o
+  pub last : length c ≤ o + d % 64 → d / 262144 % 8 ≡ flagAt (bare l c) o
+
 module _ {c : List ℕ} {o d : ℕ} (k : Looked c o d) where
   first-told : d / 64 % 8 ≡ roleNumber (roleIn c o 0)
   unfolding opcode
@@ -108,13 +113,17 @@ module _ {c : List ℕ} {o d : ℕ} (k : Looked c o d) where
         unfolding flagAt
         flag-third p = rw (all-are, e, q, p)
 
+        -- below all limits: inside the record, and at its end
         module _ (p : operandBelow l c (o + 3) (d / 4096 % 8) ≡ true) where
-          pub flag-inside : o + d % 64 < length c → d / 32768 % 8 ≡ flagAt (bare l c) o
+          flag-inside : o + d % 64 < length c → d / 32768 % 8 ≡ flagAt (bare l c) o
           unfolding flagAt opcode
           flag-inside h =
               rw (all-are, e, q, p, lt-ltb (next c o) (length c) (omega (arith, next-is))) (inside-digit (row (byte c o)) (k .digits) (few (byte c o)))
 
-          pub flag-last : length c ≤ o + d % 64 → d / 262144 % 8 ≡ flagAt (bare l c) o
+          flag-last : length c ≤ o + d % 64 → d / 262144 % 8 ≡ flagAt (bare l c) o
           unfolding flagAt opcode
           flag-last h =
               rw (all-are, e, q, p, le-ltb (next c o) (length c) (omega (arith, next-is))) (last-digit (row (byte c o)) (k .digits) (few (byte c o)))
+
+          pub flag-passes : Passes l c o d
+          flag-passes = record { inside = flag-inside; last = flag-last }

@@ -7,6 +7,7 @@ use mathlib.Core.Logic.{_⊎_, ⊎-elim}
 use mathlib.Core.Bool.{Bool, true, false, _&&_, _||_, cond}
 use mathlib.Core.List.{List, [], _∷_, map}
 use lib.Dec.{T, ltb}
+use lib.Ieee.Fits.{and-i}
 use lib.ListN.{length, getD}
 use Rattle.format.specs.Bytes.{byte}
 use Rattle.format.specs.Insn.{Role, reg, pool, sym as symbol, child, plain, OpCode, MOVE, LOADL, LOADSYM, GETGV, SETMCNST, GETIDX0, RESCUE, MATCHERR}
@@ -84,15 +85,11 @@ plains-below r [] vs = tt
 plains-below r (x ∷ xs) [] = tt
 plains-below r (x ∷ xs) (v ∷ vs) = plains-below r xs vs
 
-and-both : (a b : Bool) → T a → T b → T (a && b)
-and-both true b t u = u
-and-both false b t u = absurd t
-
 first-below : (r : Record) (xs : List Role) (vs : List ℕ) → T (allBelow r xs vs) → T (allBelow r (firstAlone xs) vs)
 unfolding allBelow
 first-below r [] vs t = tt
 first-below r (x ∷ xs) [] t = tt
-first-below r (x ∷ xs) (v ∷ vs) t = and-both (below r x v) _ (search both) (plains-below r xs vs)
+first-below r (x ∷ xs) (v ∷ vs) t = and-i (below r x v) _ (search both) (plains-below r xs vs)
 
 pub passed-before : (r : Record) (o : ℕ) → T (operandsBelow r o) → T (allBelow r (earlier (rowAt (r .code) o)) (operandsAt (r .code) o))
 unfolding operandsBelow

@@ -3,7 +3,7 @@
 use native.Mathlib.Omega.{arith}
 use mathlib.Core.Path.{sym, _∙_}
 use borrow.Author.Tests.{not-true, not-false}
-use Rattle.flags.proofs.Roles.{first-operand, second-operand, third-operand, flag-first, flag-second, flag-third, flag-inside, flag-last}
+use Rattle.flags.proofs.Roles.{first-operand, second-operand, third-operand, Passes, flag-first, flag-second, flag-third, flag-passes}
 use borrow.Author.Needs.{needs}
 use Rattle.flags.proofs.flag_at.Statement.{statement}
 use Rattle.flags.proofs.flag_at.Tie as tie
@@ -58,35 +58,20 @@ returns-3 c =
 add-if4 : tie.Need-add-if4
 add-if4 c = omega (arith, c .before .before .before .before .before .before .before .before .pre .1 .whole)
 
-returns-4 : tie.Need-returns-4
-returns-4 c =
-    let if3 = c .before in
-    let third = if3 .before in
+-- where no test returned
+passes : (c : tie.Else3)
+    → let a = c .before .before .before .before .before .before .before .before .args in Passes (a .limits .now) (a .code .now) (a .i) (a .d)
+passes c =
+    let third = c .before in
     let if2 = third .before in
     let second = if2 .before in
     let if1 = second .before in
     let first = if1 .before in
     let start = first .before .before .before in
-    flag-inside (start .pre .1) (start .args .limits .now)
+    flag-passes (start .pre .1) (start .args .limits .now)
     (sym (first .operand-below .ensures) ∙ not-false _ (if1 .if1 .left))
     (sym (second .operand-below2 .ensures) ∙ not-false _ (if2 .if2 .left))
-    (sym (third .third-below .ensures) ∙ not-false _ (if3 .if3 .left))
-    (c .if4 .taken)
-
-returns-5 : tie.Need-returns-5
-returns-5 c =
-    let if3 = c .before in
-    let third = if3 .before in
-    let if2 = third .before in
-    let second = if2 .before in
-    let if1 = second .before in
-    let first = if1 .before in
-    let start = first .before .before .before in
-    flag-last (start .pre .1) (start .args .limits .now)
-    (sym (first .operand-below .ensures) ∙ not-false _ (if1 .if1 .left))
-    (sym (second .operand-below2 .ensures) ∙ not-false _ (if2 .if2 .left))
-    (sym (third .third-below .ensures) ∙ not-false _ (if3 .if3 .left))
-    (c .if4 .left)
+    (sym (third .third-below .ensures) ∙ not-false _ (c .if3 .left))
 
 pub flag-at-spec : {M : Type 1} → statement M
 flag-at-spec =
@@ -103,6 +88,6 @@ flag-at-spec =
     returns-3
     add-if4
     (λ c. search needs)
-    returns-4
+    (λ c. passes (c .before) .inside (c .if4 .taken))
     (λ c. search needs)
-    returns-5)
+    (λ c. passes (c .before) .last (c .if4 .left)))

@@ -1,7 +1,11 @@
 -- `moves::enter` meets its contract.
 -- Assumes nothing.
 use native.Mathlib.Omega.{arith}
-use mathlib.Core.Path.{ap, _∙_}
+use Prim.Native.Nat.{_+_, _<_}
+use mathlib.Core.Path.{_≡_, ap, _∙_}
+use lib.ListN.{length}
+use Rattle.format.specs.Bytes.{byte}
+use Rattle.opcode.specs.Rows.{opRow}
 use Rattle.moves.specs.Answers.{childAmong}
 use Rattle.moves.proofs.Moves.{room, child-inside, enter-is, enter-on}
 use borrow.Author.Needs.{needs}
@@ -11,29 +15,25 @@ use Rattle.moves.proofs.enter.Tie as tie
 shared-slice-read-op-row : tie.Need-shared-slice-read-op-row
 shared-slice-read-op-row c = room (c .before .before .pre) .inside
 
+-- the operand that was found is that of the row
+found : (c : tie.After-child-operand)
+    → let a = c .before .before .before .before .args in c .child-operand .result ≡ childAmong (opRow (byte (a .code .now) (a .o)))
+found c = c .child-operand .ensures ∙ ap childAmong (c .before .op-row .ensures)
+
 returns : tie.Need-returns
 returns c =
-    let c2 = c .before .before in
-    let row = c2 .before in
-    let start = row .before .before .before in
-    let a = start .args in
-    enter-on (a .code .now) (a .o) _ (c2 .child-operand .ensures ∙ ap childAmong (row .op-row .ensures)) (c .before .if1 .taken) (c .go-on .ensures)
+    let n = c .before .before in
+    let a = n .before .before .before .before .args in
+    enter-on (a .code .now) (a .o) _ (found n) (c .before .if1 .taken) (c .go-on .ensures)
+
+inside : (c : tie.Else1) → let a = c .before .before .before .before .before .args in a .o + c .before .child-operand .result < length (a .code .now)
+inside c =
+    let n = c .before in
+    let start = n .before .before .before .before in
+    child-inside (start .args .code .now) (start .args .o) _ (found n) (c .if1 .left) (start .pre)
 
 add-wide : tie.Need-add-wide
-add-wide c =
-    let c1 = c .before in
-    let row = c1 .before in
-    let start = row .before .before .before in
-    let a = start .args in
-    omega (arith, child-inside (a .code .now) (a .o) _ (c1 .child-operand .ensures ∙ ap childAmong (row .op-row .ensures)) (c .if1 .left) (start .pre))
-
-shared-slice-read-wide : tie.Need-shared-slice-read-wide
-shared-slice-read-wide c =
-    let c2 = c .before .before in
-    let row = c2 .before in
-    let start = row .before .before .before in
-    let a = start .args in
-    child-inside (a .code .now) (a .o) _ (c2 .child-operand .ensures ∙ ap childAmong (row .op-row .ensures)) (c .before .if1 .left) (start .pre)
+add-wide c = omega (arith, inside c)
 
 next-offset-requires : tie.Need-next-offset-requires
 next-offset-requires c κs = let r = room (c .before .before .before .before .before .before .before .pre) in (r .inside, r .whole)
@@ -41,11 +41,9 @@ next-offset-requires c κs = let r = room (c .before .before .before .before .be
 returns-2 : tie.Need-returns-2
 returns-2 c =
     let if1 = c .before .before .before in
-    let number = if1 .before in
-    let row = number .before in
-    let start = row .before .before .before in
-    let a = start .args in
-    enter-is (a .code .now) (a .o) _ (number .child-operand .ensures ∙ ap childAmong (row .op-row .ensures)) (if1 .if1 .left) (c .before .wide .ensures .0) (c .next-offset .ensures)
+    let n = if1 .before in
+    let a = n .before .before .before .before .args in
+    enter-is (a .code .now) (a .o) _ (found n) (if1 .if1 .left) (c .before .wide .ensures .0) (c .next-offset .ensures)
 
 pub enter-spec : {M : Type 1} → statement M
 enter-spec =
@@ -57,7 +55,7 @@ enter-spec =
     (λ c κs. search needs)
     returns
     add-wide
-    shared-slice-read-wide
+    (λ c. inside (c .before))
     (λ c κs. search needs)
     next-offset-requires
     returns-2)
