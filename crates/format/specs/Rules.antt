@@ -26,31 +26,34 @@ firstRole o =
     (cond (among (ERR ∷ []) o) pool
     (cond (among (DEBUG ∷ []) o) plain reg))
 
--- "Second operand: register in MOVE, RESCUE, ARRAY2, AREF, ASET; pool in LOADL, SYMBOL, STRING; symbol in LOADSYM, GETGV to SETMCNST,
--- SSEND, SSENDB, SEND, SENDB, KEY_P, KARG, CLASS, MODULE, DEF, ALIAS; child in LAMBDA, BLOCK, METHOD, EXEC. All else is plain"; paper 02:
--- "GETIDX0's second operand is a register. In SSEND0 and SEND0 the second is a symbol. In TDEF and SDEF the second is a symbol"
-abbrev pub secondRole : OpCode → Role
-secondRole o =
-    cond (among (MOVE ∷ RESCUE ∷ ARRAY2 ∷ AREF ∷ ASET ∷ GETIDX0 ∷ []) o) reg
+-- Paper 01: "Second operand: register in MOVE, RESCUE, ARRAY2, AREF, ASET; pool in LOADL, SYMBOL, STRING; symbol in LOADSYM, GETGV to SETMCNST,
+-- SSEND, SSENDB, SEND, SENDB, KEY_P, KARG, CLASS, MODULE, DEF, ALIAS; child in LAMBDA, BLOCK, METHOD, EXEC. All else is plain"
+abbrev pub secondRole01 : OpCode → Role
+secondRole01 o =
+    cond (among (MOVE ∷ RESCUE ∷ ARRAY2 ∷ AREF ∷ ASET ∷ []) o) reg
     (cond (among (LOADL ∷ SYMBOL ∷ STRING ∷ []) o) pool
     (cond (among (LOADSYM ∷ []) o || between GETGV SETMCNST o
-    || among (SSEND ∷ SSENDB ∷ SEND ∷ SENDB ∷ «KEY_P» ∷ KARG ∷ CLASS ∷ MODULE ∷ DEF ∷ ALIAS ∷ []) o
-    || among (SSEND0 ∷ SEND0 ∷ TDEF ∷ SDEF ∷ []) o) sym
+    || among (SSEND ∷ SSENDB ∷ SEND ∷ SENDB ∷ «KEY_P» ∷ KARG ∷ CLASS ∷ MODULE ∷ DEF ∷ ALIAS ∷ []) o) sym
     (cond (among (LAMBDA ∷ BLOCK ∷ METHOD ∷ EXEC ∷ []) o) child plain)))
 
--- "and the third a child. The other opcodes without a comment keep paper 01's roles."
+-- Paper 02, c): "GETIDX0's second operand is a register. In SSEND0 and SEND0 the second is a symbol. In TDEF and SDEF the second is a symbol and
+-- the third a child. The other opcodes without a comment keep paper 01's roles."
+abbrev pub secondRole : OpCode → Role
+secondRole o = cond (among (GETIDX0 ∷ []) o) reg (cond (among (SSEND0 ∷ SEND0 ∷ TDEF ∷ SDEF ∷ []) o) sym (secondRole01 o))
+
 abbrev pub thirdRole : OpCode → Role
 thirdRole o = cond (among (TDEF ∷ SDEF ∷ []) o) child plain
 
-abbrev pub rolesBy : OpCode → Kind → List Role
-rolesBy o Z = []
-rolesBy o B = firstRole o ∷ []
-rolesBy o BB = firstRole o ∷ secondRole o ∷ []
-rolesBy o S = plain ∷ []
-rolesBy o BBB = firstRole o ∷ secondRole o ∷ thirdRole o ∷ []
-rolesBy o BS = firstRole o ∷ secondRole o ∷ []
-rolesBy o W = plain ∷ []
-rolesBy o BSS = firstRole o ∷ secondRole o ∷ thirdRole o ∷ []
+-- a role for each operand that a kind has, where a second operand has the role y and a third z
+abbrev pub rolesWith : Role → Role → OpCode → Kind → List Role
+rolesWith y z o Z = []
+rolesWith y z o B = firstRole o ∷ []
+rolesWith y z o BB = firstRole o ∷ y ∷ []
+rolesWith y z o S = plain ∷ []
+rolesWith y z o BBB = firstRole o ∷ y ∷ z ∷ []
+rolesWith y z o BS = firstRole o ∷ y ∷ []
+rolesWith y z o W = plain ∷ []
+rolesWith y z o BSS = firstRole o ∷ y ∷ z ∷ []
 
 -- "Jumps (JMP, JMPUW, JMPIF, JMPNOT, JMPNIL)"; "JMP and JMPUW jump", the others by choice 1. "Ending: RETURN, RETURN_BLK, RETSELF, RETNIL,
 -- RETTRUE, RETFALSE, BREAK, CALL, ERR, STOP."
@@ -62,4 +65,4 @@ flowBy o =
 
 -- a row as those sentences have it
 abbrev pub byRules : Row → Row
-byRules (op o k rs f) = op o k (rolesBy o k) (flowBy o)
+byRules (op o k rs f) = op o k (rolesWith (secondRole o) (thirdRole o) o k) (flowBy o)

@@ -4,17 +4,15 @@ use Prim.Native.Nat.{ℕ, _+_, _<_}
 use native.Mathlib.Omega.{arith}
 use mathlib.Core.Path.{_≡_, refl, _∙_}
 use mathlib.Core.Logic.{_⊎_, ⊎-elim}
-use mathlib.Core.Bool.{Bool, true, false, _&&_, _||_, cond}
+use mathlib.Core.Bool.{Bool, true, false, _&&_, cond}
 use mathlib.Core.List.{List, [], _∷_, map}
 use lib.Dec.{T, ltb}
 use lib.Ieee.Fits.{and-i}
 use lib.ListN.{length, getD}
 use Rattle.format.specs.Bytes.{byte}
-use Rattle.format.specs.Insn.{Role, reg, pool, sym as symbol, child, plain, OpCode, MOVE, LOADL, LOADSYM, GETGV, SETMCNST, GETIDX0, RESCUE, MATCHERR}
-use Rattle.format.specs.Insn.{SSEND, SSEND0, SSENDB, SEND, SEND0, SENDB, BLKCALL, «KEY_P», KARG, ADDILV, SUBILV, ARRAY2, AREF, ASET, SYMBOL, STRING}
-use Rattle.format.specs.Insn.{LAMBDA, BLOCK, METHOD, CLASS, MODULE, EXEC, DEF, TDEF, SDEF, ALIAS, number, Kind, Z, B, BB, S, BBB, BS, W, BSS, Row}
-use Rattle.format.specs.Insn.{name, kind, roles, fields, table, row, operands, opcode, rowAt, operandsAt, rest}
-use Rattle.format.specs.Rules.{among, between, firstRole}
+use Rattle.format.specs.Insn.{Role, reg, sym as symbol, child, plain, OpCode, GETIDX0, MATCHERR, SSEND0, SEND0, BLKCALL, ADDILV, SUBILV, METHOD, TDEF, SDEF}
+use Rattle.format.specs.Insn.{number, Kind, BB, BBB, Row, name, kind, roles, fields, table, row, operands, opcode, rowAt, operandsAt, rest}
+use Rattle.format.specs.Rules.{among, secondRole01, rolesWith}
 use Rattle.format.specs.Tree.{childOf}
 use Rattle.format.specs.Pattern.{Record, Pattern, recAt, rlens}
 use Rattle.format.specs.Exam.{Below, below, allBelow, operandsBelow}
@@ -43,26 +41,7 @@ pub the-others : (rolesOf MATCHERR ≡ reg ∷ [])
 unfolding row table
 the-others = (refl, refl, refl, refl)
 
--- Paper 01's roles, by its own sentence on second operands; a third has none.
-abbrev secondRole01 : OpCode → Role
-secondRole01 o =
-    cond (among (MOVE ∷ RESCUE ∷ ARRAY2 ∷ AREF ∷ ASET ∷ []) o) reg
-    (cond (among (LOADL ∷ SYMBOL ∷ STRING ∷ []) o) pool
-    (cond (among (LOADSYM ∷ []) o || between GETGV SETMCNST o
-    || among (SSEND ∷ SSENDB ∷ SEND ∷ SENDB ∷ «KEY_P» ∷ KARG ∷ CLASS ∷ MODULE ∷ DEF ∷ ALIAS ∷ []) o) symbol
-    (cond (among (LAMBDA ∷ BLOCK ∷ METHOD ∷ EXEC ∷ []) o) child plain)))
-
-abbrev roles01 : OpCode → Kind → List Role
-roles01 o Z = []
-roles01 o B = firstRole o ∷ []
-roles01 o BB = firstRole o ∷ secondRole01 o ∷ []
-roles01 o S = plain ∷ []
-roles01 o BBB = firstRole o ∷ secondRole01 o ∷ plain ∷ []
-roles01 o BS = firstRole o ∷ secondRole01 o ∷ []
-roles01 o W = plain ∷ []
-roles01 o BSS = firstRole o ∷ secondRole01 o ∷ plain ∷ []
-
--- before: the first operand of the five had a role alone, and others had the roles of now
+-- By paper 01 the first operand alone of the five has a role, and every other opcode has the roles that it has here: one computed test of the table.
 abbrev newer : OpCode → Bool
 newer o = among (GETIDX0 ∷ SSEND0 ∷ SEND0 ∷ TDEF ∷ SDEF ∷ []) o
 
@@ -73,12 +52,11 @@ firstAlone (x ∷ xs) = x ∷ map (λ (y : Role). plain) xs
 abbrev pub earlier : Row → List Role
 earlier r = cond (newer (name r)) (firstAlone (roles r)) (roles r)
 
--- these are paper 01's, over the whole table
-pub as-paper-01 : map (λ (r : Row). roles01 (name r) (kind r)) table ≡ map earlier table
+pub as-paper-01 : map (λ (r : Row). rolesWith (secondRole01 (name r)) plain (name r) (kind r)) table ≡ map earlier table
 unfolding table
 as-paper-01 = refl
 
--- so where 17 is not met now it was not met before
+-- so an instruction that does not meet 17 does not meet it by those roles either
 plains-below : (r : Record) (xs : List Role) (vs : List ℕ) → T (allBelow r (map (λ (y : Role). plain) xs) vs)
 unfolding allBelow below
 plains-below r [] vs = tt

@@ -8,6 +8,7 @@ use mathlib.Core.Bool.{Bool, true, false, _&&_, _||_, not, cond}
 use mathlib.Core.Option.{Option, none, some}
 use mathlib.Core.List.{List, [], _∷_}
 use lib.Dec.{T, eqb, eqb→eq}
+use lib.Ieee.Bits.{is-false}
 use lib.ListN.{length, getD}
 use Rattle.format.specs.Bytes.{byte}
 use Rattle.format.specs.Insn.{Kind, Z, B, BB, S, BBB, BS, W, BSS, Role, reg, pool, sym as symbol, child, plain, Row, fields, width, kind, roles, table, row}
@@ -175,14 +176,10 @@ first-all : (b : ℕ) → T (first-test (row b))
 unfolding first-test table row
 first-all b = by-test first-test tt b
 
-not-so : (b : Bool) → T (not b) → b ≡ false
-not-so true t = absurd t
-not-so false t = refl
-
 pub child-bytes : (c : List ℕ) (o : ℕ)
     → childOperand (roles (rowAt c o)) (operandsAt c o) ≡ childOr (roleIn c o 1) (byte c (o + 2)) (childOr (roleIn c o 2) (byte c (o + 3)) none)
 unfolding first-test
 child-bytes c o =
     child-asked (roles (rowAt c o)) (operandsAt c o)
     ∙ asked-bytes childOr none (λ v a. refl) c o
-    ∙ rw (not-so (isChild (roleIn c o 0)) (first-all (opcode c o)))
+    ∙ rw (is-false (isChild (roleIn c o 0)) (first-all (opcode c o)))

@@ -2,14 +2,13 @@
 -- Assumes nothing.
 use Prim.Native.Nat.{ℕ, suc, _+_, _≤_}
 use mathlib.Core.Path.{_≡_, refl, sym, ap, subst}
-use mathlib.Core.Bool.{Bool, true, false, _||_, not}
+use mathlib.Core.Bool.{Bool, true, false, _||_, not, cond}
 use mathlib.Core.Option.{some}
 use mathlib.Core.List.{List, [], _∷_}
 use native.Mathlib.Omega.{arith}
 use lib.Dec.{T}
 use lib.ListN.{length, List·getD-eq-default}
-use Rattle.format.specs.Insn.{Z, Role, reg, pool, sym as symbol, child, plain, Flow, on, ends, jumps, may, NOP, Row, op, width, kind, roles, flow, table}
-use Rattle.format.specs.Insn.{row, operands}
+use Rattle.format.specs.Insn.{Z, Role, Flow, on, ends, jumps, may, NOP, Row, op, width, kind, roles, flow, table, row, operands}
 use Rattle.format.specs.Run.{isChild, childOperand}
 use Rattle.format.proofs.Table.{by-test}
 
@@ -36,11 +35,12 @@ no-child : (xs : List Role) (vs : List ℕ) (k : ℕ) → T (not (anyChild xs)) 
 unfolding anyChild childOperand
 no-child [] vs k t e = let z : _≡_ {A = ℕ} 0 1 = cc in omega arith
 no-child (x ∷ xs) [] k t e = let z : _≡_ {A = ℕ} 0 1 = cc in omega arith
-no-child (reg ∷ xs) (v ∷ vs) k t e = no-child xs vs k t e
-no-child (pool ∷ xs) (v ∷ vs) k t e = no-child xs vs k t e
-no-child (symbol ∷ xs) (v ∷ vs) k t e = no-child xs vs k t e
-no-child (child ∷ xs) (v ∷ vs) k t e = t
-no-child (plain ∷ xs) (v ∷ vs) k t e = no-child xs vs k t e
+no-child (x ∷ xs) (v ∷ vs) k t e = go (isChild x) t e (no-child xs vs k)
+  where
+    go : (a : Bool) → T (not (a || anyChild xs)) → cond a (some v) (childOperand xs vs) ≡ some k
+        → (T (not (anyChild xs)) → childOperand xs vs ≡ some k → ⊥) → ⊥
+    go true t e later = t
+    go false t e later = later t e
 
 on-only : (f : Flow) → T (isOn f) → f ≡ on
 unfolding isOn

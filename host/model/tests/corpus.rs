@@ -94,7 +94,7 @@ fn opcodes(mut code: &[u8]) -> Vec<Opcode> {
 }
 
 #[test]
-fn request_c_changes_no_answer() {
+fn no_file_has_a_newer_opcode() {
     let newer = ["GETIDX0", "SSEND0", "SEND0", "TDEF", "SDEF"];
     for (name, file) in corpus() {
         let loaded = examine(&file, &exact(&file));
