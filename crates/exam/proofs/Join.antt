@@ -61,7 +61,7 @@ module _ (l : List ℕ) (R : Record) (s : Same l R) where
 
 -- the words that the code reads
 abbrev pub limitsAt : List ℕ → ℕ → List ℕ
-limitsAt recs r = 256 ∷ word 19 recs r 2 ∷ word 19 recs r 10 ∷ word 19 recs r 12 ∷ word 19 recs r 3 ∷ []
+limitsAt recs r = 65536 ∷ word 19 recs r 2 ∷ word 19 recs r 10 ∷ word 19 recs r 12 ∷ word 19 recs r 3 ∷ []
 
 module _ (f recs hs ls : List ℕ) (r : ℕ) where
   pub record-is : (a e h hn l ln n : ℕ) → a ≡ word 19 recs r 6 → n ≡ word 19 recs r 5 → e ≡ a + n

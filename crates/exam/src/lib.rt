@@ -1,4 +1,4 @@
-// Examination of a loaded pattern: conditions 15 to 20 over the file's bytes and the lent tables.
+// Examination of a loaded pattern: conditions 15 to 20 and 25 over the file's bytes and the lent tables.
 use flags::begins_at;
 use scan::exam_code;
 ghost use mathlib.Core.Path.{_≡_};
@@ -88,7 +88,7 @@ fn examine_part(
     exam_20(lines, l, ln)
 }
 
-// Examination of record `r`: the number of the first condition of 16 to 20 that it meets, 0 where it passes.
+// Examination of record `r`: the number of the first condition of 16 to 20 and 25 that it meets, 0 where it passes.
 pub fn examine_record(
     file: &[u8],
     records: &[u32],
@@ -106,7 +106,7 @@ pub fn examine_record(
     let end = place + word(records, row + 5);
     // By the number of an operand's role: none, registers, constants, symbols, children.
     let limits: [u32; 5] = [
-        256,
+        65536,
         records[row + 2],
         records[row + 10],
         records[row + 12],
@@ -167,7 +167,7 @@ fn examine_all(
     0
 }
 
-// Examination of the first `n` records: the number of the first condition of 15 to 20 that is met, 0 where the pattern passes.
+// Examination of the first `n` records: the number of the first condition of 15 to 20 and 25 that is met, 0 where the pattern passes.
 pub fn examine_tables(file: &[u8], records: &[u32], handlers: &[u32], lines: &[u32], n: usize) -> u8
     requires { ⌜ Fits (now file) (now records) (now handlers) (now lines) n ⌝ }
     ensures { λ x. ⌜ x ≡ examinePattern (patternAt (now (file .entry)) (now (records .entry)) (now (handlers .entry)) (now (lines .entry)) n) ⌝ }

@@ -1,2 +1,4 @@
+pub mod Values
 pub mod Roles
+pub mod Tested
 pub mod Goes

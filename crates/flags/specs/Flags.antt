@@ -1,40 +1,55 @@
--- The flag of an instruction, and what flags say of a record: a record of which only the bytes and the counts matter.
+-- The tests of an instruction, its flag, and what flags say of a record: a record of which only the bytes and the counts matter.
 -- Assumes nothing.
-use Prim.Native.Nat.{ℕ, zero, suc, _+_, _-_, _≤_, _<_}
+use Prim.Native.Nat.{ℕ, zero, suc, _+_, _-_, _*_, _/_, _%_, _≤_, _<_}
 use mathlib.Core.Path.{_≡_}
-use mathlib.Core.Bool.{Bool, true, cond, _&&_}
+use mathlib.Core.Bool.{Bool, false, cond, _&&_}
 use mathlib.Core.List.{List, []}
-use lib.Dec.{leb, ltb}
-use lib.ListN.{length, getD}
+use lib.Dec.{leb, ltb, eqb}
+use lib.ListN.{length, getD, drop}
 use Rattle.format.specs.Bytes.{byte, u16At, refuse}
-use Rattle.format.specs.Insn.{flow, rowAt, next, signed16}
+use Rattle.format.specs.Insn.{flow, prefix, firstWidth, secondWidth, opcode, rowAt, rest, next, signed16}
 use Rattle.format.specs.Pattern.{Record, begins}
-use Rattle.format.specs.Exam.{below, operandsBelow}
-use Rattle.opcode.specs.Digits.{roleAt, flagInside, flagLast, instruction, digitsOf}
+use Rattle.format.specs.Exam.{operandsBelow, at16}
+use Rattle.opcode.specs.Digits.{flagInside, flagLast, digitsOf}
 
--- what operands have to stay below, by the number of their role: 256 where it is plain
+-- what operands have to stay below, by the number of their role: 65536 where it is plain
 pub record Limits (l : List ℕ) : Type 0 where
   pub five : length l ≡ 5
-  pub plain-limit : getD l 0 0 ≡ 256
+  pub plain-limit : getD l 0 0 ≡ 65536
 
 abbrev pub bare : List ℕ → List ℕ → Record
 bare l c =
     record { nregs = getD l 1 0; rlen = getD l 4 0; npool = getD l 2 0; nsyms = getD l 3 0; code = c; handlers = []; lines = [] }
 
--- 17 at one operand, the byte at i, whose role has the number x
-abbrev pub operandBelow : List ℕ → List ℕ → ℕ → ℕ → Bool
-operandBelow l c i x = below (bare l []) (roleAt x) (byte c i)
-
--- it is there unless it is plain
+-- an operand at i whose role has the number x: it is there unless it is plain
 pub record Operand (c : List ℕ) (i x : ℕ) : Type 0 where
   pub role : x < 5
   pub there : 0 < x → i < length c
 
--- d: the digits of the instruction at o, which is known and whole
+-- d: the digits of the opcode of the instruction at o
 pub record Looked (c : List ℕ) (o d : ℕ) : Type 0 where
-  pub digits : d ≡ digitsOf (byte c o)
-  pub read : instruction (byte c o) ≡ true
+  pub inside : o < length c
+  pub digits : d ≡ digitsOf (opcode c o)
+
+-- it has no prefix and is whole
+pub record Alone (c : List ℕ) (o d : ℕ) : Type 0 where
+  pub looked : Looked c o d
+  pub no-prefix : prefix (byte c o) ≡ false
+  pub next-is : o + d % 64 ≡ next c o
   pub whole : next c o ≤ length c
+
+-- the instruction at o meets neither 16 nor 25
+pub record Entire (c : List ℕ) (o : ℕ) : Type 0 where
+  pub inside : o < length c
+  pub none : at16 c o ≡ 0
+
+-- how many bytes the instruction at o has
+abbrev pub sizeAt : List ℕ → ℕ → ℕ
+sizeAt c o = suc (rest (byte c o) (drop (suc o) c))
+
+-- how many an opcode of the digits d has behind the prefix p, the prefix with them
+abbrev pub sizeBehind : ℕ → ℕ → ℕ
+sizeBehind p d = 1 + d % 64 + (firstWidth p - 1) * (d / 16777216 % 8) + (secondWidth p - 1) * (d / 134217728 % 8)
 
 -- the flag of the instruction at o: 2 where it meets 17
 unfoldable pub flagAt : Record → ℕ → ℕ
@@ -43,6 +58,10 @@ flagAt r o =
     (operandsBelow r o)
     (cond (ltb (next (r .code) o) (length (r .code))) (flagInside (flow (rowAt (r .code) o))) (flagLast (flow (rowAt (r .code) o))))
     2
+
+-- what the tests of the instruction at o answer: its size and, behind that, its flag; or no size, and the number that it meets of 16 and 25
+unfoldable pub testedAt : List ℕ → List ℕ → ℕ → ℕ
+testedAt l c o = cond (eqb (at16 c o) 0) (sizeAt c o + flagAt (bare l c) o * 64) (at16 c o * 64)
 
 -- what 17 and 18 answer at an instruction by its flag; t: an instruction begins at its target
 unfoldable pub judged : ℕ → Bool → ℕ

@@ -4,5 +4,6 @@ pub mod Texts
 pub mod Pool
 pub mod File
 pub mod Table
+pub mod Prefix
 pub mod RowsFrom
 pub mod Places

@@ -5,6 +5,7 @@ use mathlib.Core.Path.{_≡_}
 use mathlib.Core.Logic.{_↔_}
 use mathlib.Core.List.{List, [], _∷_}
 use mathlib.Core.Option.{some}
+use mathlib.Core.Bool.{not}
 use lib.Dec.{T}
 use lib.ListN.{length, getD}
 use Rattle.format.specs.Bytes.{Answer, ok, refused}
@@ -15,7 +16,7 @@ use Rattle.format.specs.Load.{Nine, loading, recordsOf}
 use Rattle.format.specs.Insn.{plain, roles, rowAt, operandsAt}
 use Rattle.format.specs.Line.{lineAt, lastAtOrBelow}
 use Rattle.format.specs.Pattern.{Pattern, patternOf, recAt, Begins}
-use Rattle.format.specs.Exam.{readable, Below}
+use Rattle.format.specs.Exam.{stray, readable, Below}
 use Rattle.format.specs.Run.{Choice, Frame, frame, codeOf, run, choices, finished, stands, frameTable, follow}
 
 -- A frame "is where an instruction begins, whose register, pool, symbol and child operands are below its record's counts by their roles";
@@ -23,6 +24,8 @@ use Rattle.format.specs.Run.{Choice, Frame, frame, codeOf, run, choices,
 pub record FrameHolds (p : Pattern) (f : Frame) : Type 0 where
   pub inside : f .rec < length p
   pub starts : Begins (codeOf p f) (f .at)
+  -- "The guarantee about runs includes prefixed instructions": no prefix stands alone, and the instruction is whole
+  pub paired : T (not (stray (codeOf p f) (f .at)))
   pub whole : T (readable (codeOf p f) (f .at))
   pub operands : (i : ℕ) → i < length (roles (rowAt (codeOf p f) (f .at)))
       → Below (recAt p (f .rec)) (getD (roles (rowAt (codeOf p f) (f .at))) i plain) (getD (operandsAt (codeOf p f) (f .at)) i 0)

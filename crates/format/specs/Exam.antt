@@ -1,13 +1,13 @@
--- Examination: conditions 15 to 20 of paper 01, and the examination that answers the first that is met in the paper's order.
+-- Examination: conditions 15 to 20 of paper 01 and 25 of paper 02 b), and the examination that answers the first that is met in the papers' order.
 -- Assumes nothing.
 use Prim.Native.Nat.{ℕ, zero, suc, _<_}
 use mathlib.Core.Path.{_≡_}
 use mathlib.Core.Logic.{_⊎_}
-use mathlib.Core.Bool.{Bool, true, false, _&&_, not, cond}
+use mathlib.Core.Bool.{Bool, true, false, _&&_, _||_, not, cond}
 use mathlib.Core.List.{List, [], _∷_}
 use lib.Dec.{T, ltb, leb, eqb}
 use lib.ListN.{length, getD}
-use Rattle.format.specs.Bytes.{Answer, ok, refused, bind, refuse, first}
+use Rattle.format.specs.Bytes.{Answer, ok, refused, bind, refuse, first, byte}
 use Rattle.format.specs.File.{Content}
 use Rattle.format.specs.Load.{Nine, Loaded, loading, laid}
 use Rattle.format.specs.Insn.{Role, reg, pool, sym, child, plain, Flow, on, ends, jumps, may, roles, flow, known, prefix, opcode, rowAt, operandsAt, rest, next}
@@ -17,9 +17,13 @@ use Rattle.format.specs.Pattern.{Record, Pattern, patternOf, ilen, clen,
 
 -- The tests at an instruction.
 
--- 16: a known opcode, no prefix, whole inside the record
+-- 25: "a prefix is last in its record or another prefix follows it"
+unfoldable pub stray : List ℕ → ℕ → Bool
+stray c o = prefix (byte c o) && (leb (length c) (suc o) || prefix (byte c (suc o)))
+
+-- 16: a known opcode, whole inside the record
 unfoldable pub readable : List ℕ → ℕ → Bool
-readable c o = known (opcode c o) && not (prefix (opcode c o)) && leb (next c o) (length c)
+readable c o = known (opcode c o) && leb (next c o) (length c)
 
 -- 17: an operand is "below nregs, pool count, symbol count or rlen by its role"
 abbrev pub Below : Record → Role → ℕ → Type 0
@@ -56,14 +60,22 @@ follows c o = leads (flow (rowAt c o)) (begins c (next c o)) (lands c o)
 
 -- The conditions. First of one record:
 
--- "16: in a record, reading from 0, an opcode above 118, a prefix opcode (115 to 117), a cut instruction, or ilen 0."
+-- "16: in a record, reading from 0, an opcode above 118, .. a cut instruction, or ilen 0." "Refusal 16 no longer covers prefixes": a prefix that
+-- meets 25 does not meet 16.
 pub record Unreadable (r : Record) : Type 0 where
   pub at : ℕ
   pub starts : T (begins (r .code) at)
+  pub paired : T (not (stray (r .code) at))
   pub fails : T (not (readable (r .code) at))
 
 abbrev pub Bad16 : Record → Type 0
 Bad16 r = (ilen r ≡ 0) ⊎ Unreadable r
+
+-- "25 when a prefix is last in its record or another prefix follows it"
+pub record Bad25 (r : Record) : Type 0 where
+  pub at : ℕ
+  pub starts : T (begins (r .code) at)
+  pub alone : T (stray (r .code) at)
 
 -- "17: an operand not below nregs, pool count, symbol count or rlen by its role."
 pub record Bad17 (r : Record) : Type 0 where
@@ -118,12 +130,13 @@ pub data Meets (p : Pattern) : ℕ → Type 0 where
   meets18 : Some Bad18 p → Meets p 18
   meets19 : Some Bad19 p → Meets p 19
   meets20 : Some Bad20 p → Meets p 20
+  meets25 : Some Bad25 p → Meets p 25
 
--- a loaded pattern that "meets none of 15 to 20"
+-- a loaded pattern of which "passing then means meeting none of 15 to 20 and 25"
 abbrev pub Passes : Pattern → Type 0
 Passes p = (n : ℕ) → ¬ Meets p n
 
--- "A file that passes is one that loads in some lent tables and meets none of 15 to 20."
+-- "A file that passes is one that loads in some lent tables and meets none of 15 to 20" and 25
 pub record FilePasses (f : List ℕ) : Type 0 where
   pub tables : Nine
   pub content : Content
@@ -143,9 +156,9 @@ unfoldable pub firstOf : (ℕ → ℕ) → List ℕ → ℕ
 firstOf f [] = 0
 firstOf f (x ∷ xs) = first (f x) (firstOf f xs)
 
--- "16 over the whole record"
+-- "16 over the whole record", and 25 "in 16's place"
 abbrev pub at16 : List ℕ → ℕ → ℕ
-at16 c o = refuse 16 (readable c o)
+at16 c o = cond (stray c o) 25 (refuse 16 (readable c o))
 
 unfoldable pub exam16 : List ℕ → ℕ
 exam16 c = first (refuse 16 (ltb 0 (length c))) (firstAt (at16 c) c 0 0)

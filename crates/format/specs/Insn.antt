@@ -1,11 +1,11 @@
 -- Instructions: the 119 opcodes with operand kind, roles and flow, sizes, operands, jump targets, and what fetch answers.
 -- Paper 01, 'Fetch and line lookup', 'Examination'; names and kinds are those of insn.rs's ENUM_TABLE and FETCH_TABLE. Paper 02, c): the roles of
--- GETIDX0, SSEND0, SEND0, TDEF and SDEF.
+-- GETIDX0, SSEND0, SEND0, TDEF and SDEF; b): prefixes.
 -- Assumes nothing.
 use Prim.Native.Nat.{ℕ, zero, suc, _+_, _-_}
-use mathlib.Core.Bool.{Bool, cond, _&&_}
+use mathlib.Core.Bool.{Bool, cond, _&&_, _||_}
 use mathlib.Core.List.{List, [], _∷_}
-use lib.Dec.{ltb, leb}
+use lib.Dec.{ltb, leb, eqb}
 use lib.ListN.{getD, drop}
 use Rattle.format.specs.Bytes.{Answer, ok, refused, has, byte, u16At, u24At}
 
@@ -13,16 +13,20 @@ use Rattle.format.specs.Bytes.{Answer, ok, refused, has, byte, u16At, u2
 pub data Kind : Type 0 where
   Z B BB S BBB BS W BSS : Kind
 
--- how many bytes each operand has
+-- how many bytes each operand has, where the first operand of B, BB, BBB, BS and BSS has x and the second of BB and BBB y
+abbrev pub fieldsBy : ℕ → ℕ → Kind → List ℕ
+fieldsBy x y Z = []
+fieldsBy x y B = x ∷ []
+fieldsBy x y BB = x ∷ y ∷ []
+fieldsBy x y S = 2 ∷ []
+fieldsBy x y BBB = x ∷ y ∷ 1 ∷ []
+fieldsBy x y BS = x ∷ 2 ∷ []
+fieldsBy x y W = 3 ∷ []
+fieldsBy x y BSS = x ∷ 2 ∷ 2 ∷ []
+
+-- and without a prefix
 abbrev pub fields : Kind → List ℕ
-fields Z = []
-fields B = 1 ∷ []
-fields BB = 1 ∷ 1 ∷ []
-fields S = 2 ∷ []
-fields BBB = 1 ∷ 1 ∷ 1 ∷ []
-fields BS = 1 ∷ 2 ∷ []
-fields W = 3 ∷ []
-fields BSS = 1 ∷ 2 ∷ 2 ∷ []
+fields k = fieldsBy 1 1 k
 
 abbrev pub total : List ℕ → ℕ
 total [] = 0
@@ -324,7 +328,29 @@ known b = ltb b 119
 abbrev pub prefix : ℕ → Bool
 prefix b = leb 115 b && leb b 117
 
--- "Sizes with the opcode byte"
+-- What the first byte b of an instruction says of it. "The instruction then begins at its prefix": the bytes before its opcode byte
+abbrev pub lead : ℕ → ℕ
+lead b = cond (prefix b) 1 0
+
+-- "Prefix 115 widens the first operand of B, BB, BBB, BS and BSS to two bytes. Prefix 116 widens the second of BB and BBB. Prefix 117 does
+-- both, each where the kind has it. Other operands are unchanged."
+abbrev pub widensFirst : ℕ → Bool
+widensFirst b = eqb b 115 || eqb b 117
+
+abbrev pub widensSecond : ℕ → Bool
+widensSecond b = eqb b 116 || eqb b 117
+
+abbrev pub firstWidth : ℕ → ℕ
+firstWidth b = cond (widensFirst b) 2 1
+
+abbrev pub secondWidth : ℕ → ℕ
+secondWidth b = cond (widensSecond b) 2 1
+
+-- how many bytes each operand of an opcode of kind k has
+abbrev pub fieldsFrom : ℕ → Kind → List ℕ
+fieldsFrom b k = fieldsBy (firstWidth b) (secondWidth b) k
+
+-- "Sizes with the opcode byte", of an opcode without a prefix
 abbrev pub size : ℕ → ℕ
 size b = suc (width (kind (row b)))
 
@@ -340,19 +366,22 @@ unfoldable pub operands : List ℕ → List ℕ → ℕ → List ℕ
 operands [] c i = []
 operands (w ∷ ws) c i = operand w c i ∷ operands ws c (i + w)
 
--- the opcode byte of the instruction at o of a record's instruction bytes c
+-- the opcode byte of the instruction at o of a record's instruction bytes c: behind its prefix, if it has one
 unfoldable pub opcode : List ℕ → ℕ → ℕ
-opcode c o = byte c o
+opcode c o = byte c (o + lead (byte c o))
 
 abbrev pub rowAt : List ℕ → ℕ → Row
 rowAt c o = row (opcode c o)
 
+abbrev pub fieldsAt : List ℕ → ℕ → List ℕ
+fieldsAt c o = fieldsFrom (byte c o) (kind (rowAt c o))
+
 abbrev pub operandsAt : List ℕ → ℕ → List ℕ
-operandsAt c o = operands (fields (kind (rowAt c o))) c (o + 1)
+operandsAt c o = operands (fieldsAt c o) c (o + lead (byte c o) + 1)
 
 -- how many bytes an instruction has behind its first byte b, where bs is what stands behind b
 unfoldable pub rest : ℕ → List ℕ → ℕ
-rest b bs = width (kind (row b))
+rest b bs = lead b + total (fieldsAt (b ∷ bs) 0)
 
 -- the offset behind the instruction at o
 abbrev pub next : List ℕ → ℕ → ℕ

@@ -12,4 +12,6 @@ pub mod Refusals
 pub mod Header
 pub mod Constants
 pub mod Newer
+pub mod Prefixes
+pub mod Unprefixed
 pub mod Samples

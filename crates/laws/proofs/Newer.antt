@@ -1,25 +1,23 @@
 -- Request c): the roles of GETIDX0, SSEND0, SEND0, TDEF and SDEF, what 17 tests at them, and the children that are entered at TDEF and SDEF.
 -- Assumes nothing.
-use Prim.Native.Nat.{ℕ, _+_, _<_}
+use Prim.Native.Nat.{ℕ, _<_}
 use native.Mathlib.Omega.{arith}
-use mathlib.Core.Path.{_≡_, refl, _∙_}
+use mathlib.Core.Path.{_≡_, refl}
 use mathlib.Core.Logic.{_⊎_, ⊎-elim}
 use mathlib.Core.Bool.{Bool, true, false, _&&_, cond}
 use mathlib.Core.List.{List, [], _∷_, map}
 use lib.Dec.{T, ltb}
 use lib.Ieee.Fits.{and-i}
 use lib.ListN.{length, getD}
-use Rattle.format.specs.Bytes.{byte}
 use Rattle.format.specs.Insn.{Role, reg, sym as symbol, child, plain, OpCode, GETIDX0, MATCHERR, SSEND0, SEND0, BLKCALL, ADDILV, SUBILV, METHOD, TDEF, SDEF}
-use Rattle.format.specs.Insn.{number, Kind, BB, BBB, Row, name, kind, roles, fields, table, row, operands, opcode, rowAt, operandsAt, rest}
+use Rattle.format.specs.Insn.{number, Kind, BB, BBB, Row, name, kind, roles, table, row, operands, opcode, rowAt, operandsAt, next}
 use Rattle.format.specs.Rules.{among, secondRole01, rolesWith}
 use Rattle.format.specs.Tree.{childOf}
 use Rattle.format.specs.Pattern.{Record, Pattern, recAt, rlens}
 use Rattle.format.specs.Exam.{Below, below, allBelow, operandsBelow}
-use Rattle.format.specs.Run.{enter, Frame, frame, codeOf, into, move, oneStep}
+use Rattle.format.specs.Run.{enter, Frame, frame, codeOf, childOperand, into, move, oneStep}
 use Rattle.format.specs.Claim.{FrameHolds}
 use Rattle.format.proofs.Table.{both}
-use Rattle.runs.proofs.Operands.{below-bytes, child-bytes}
 
 abbrev rolesOf : OpCode → List Role
 rolesOf o = roles (row (number o))
@@ -110,73 +108,71 @@ def-shape : (c : List ℕ) (o : ℕ) → IsDef c o → Shaped c o BBB (reg ∷ s
 unfolding row table
 def-shape c o i = ⊎-elim (λ e. shape c o (number TDEF) e refl refl) (λ e. shape c o (number SDEF) e refl refl) i
 
+-- the operands of the instruction at o, by their places among them
+abbrev pub arg : List ℕ → ℕ → ℕ → ℕ
+arg c o i = getD (operandsAt c o) i 0
+
 -- "Refusal 17 .. cover these operands and children": what it tests there
 module _ (r : Record) (o : ℕ) where
   pub getidx0-tests : opcode (r .code) o ≡ number GETIDX0
-      → operandsBelow r o ≡ (ltb (byte (r .code) (o + 1)) (r .nregs) && ltb (byte (r .code) (o + 2)) (r .nregs))
-  unfolding below
+      → operandsBelow r o ≡ (ltb (arg (r .code) o 0) (r .nregs) && ltb (arg (r .code) o 1) (r .nregs))
+  unfolding operandsBelow allBelow below operands
   getidx0-tests e =
-      let q = getidx0-shape (r .code) o e .roles-are in
-      rw q at (below-bytes r o) ∙ rw (and-true (ltb (byte (r .code) (o + 2)) (r .nregs)))
+      let s = getidx0-shape (r .code) o e in
+      let k = s .kind-is in
+      let q = s .roles-are in
+      rw (k, q, and-true)
 
-  pub send0-tests : IsSend0 (r .code) o → operandsBelow r o ≡ (ltb (byte (r .code) (o + 1)) (r .nregs) && ltb (byte (r .code) (o + 2)) (r .nsyms))
-  unfolding below
+  pub send0-tests : IsSend0 (r .code) o → operandsBelow r o ≡ (ltb (arg (r .code) o 0) (r .nregs) && ltb (arg (r .code) o 1) (r .nsyms))
+  unfolding operandsBelow allBelow below operands
   send0-tests i =
-      let q = send0-shape (r .code) o i .roles-are in
-      rw q at (below-bytes r o) ∙ rw (and-true (ltb (byte (r .code) (o + 2)) (r .nsyms)))
+      let s = send0-shape (r .code) o i in
+      let k = s .kind-is in
+      let q = s .roles-are in
+      rw (k, q, and-true)
 
   pub def-tests : IsDef (r .code) o
       → operandsBelow r o
-      ≡ (ltb (byte (r .code) (o + 1)) (r .nregs) && (ltb (byte (r .code) (o + 2)) (r .nsyms) && ltb (byte (r .code) (o + 3)) (r .rlen)))
-  unfolding below
+      ≡ (ltb (arg (r .code) o 0) (r .nregs) && (ltb (arg (r .code) o 1) (r .nsyms) && ltb (arg (r .code) o 2) (r .rlen)))
+  unfolding operandsBelow allBelow below operands
   def-tests i =
-      let q = def-shape (r .code) o i .roles-are in
-      rw q at (below-bytes r o) ∙ rw (and-true (ltb (byte (r .code) (o + 3)) (r .rlen)))
+      let s = def-shape (r .code) o i in
+      let k = s .kind-is in
+      let q = s .roles-are in
+      rw (k, q, and-true)
 
   -- "TDEF and SDEF can be entered like METHOD": the child is the third operand, where it is METHOD's second
-  pub enter-def : IsDef (r .code) o → move r o enter ≡ into (byte (r .code) (o + 3)) (o + 4)
-  unfolding move opcode rest
+  pub enter-def : IsDef (r .code) o → move r o enter ≡ into (arg (r .code) o 2) (next (r .code) o)
+  unfolding move childOperand operands
   enter-def i =
       let s = def-shape (r .code) o i in
-      let q = s .roles-are in
       let k = s .kind-is in
-      let e = child-bytes (r .code) o in
-      rw (e, q, k)
+      let q = s .roles-are in
+      rw (k, q)
 
-  pub enter-method : opcode (r .code) o ≡ number METHOD → move r o enter ≡ into (byte (r .code) (o + 2)) (o + 3)
-  unfolding move opcode rest row table
-  enter-method m = let e = child-bytes (r .code) o in rw (e, m)
+  pub enter-method : opcode (r .code) o ≡ number METHOD → move r o enter ≡ into (arg (r .code) o 1) (next (r .code) o)
+  unfolding move childOperand operands row table
+  enter-method m = rw m
 
 -- so a run stands at the start of that child, over the frame that it left
 pub def-entered : (p : Pattern) (f : Frame) (under : List Frame) → IsDef (codeOf p f) (f .at)
     → oneStep p (f ∷ under) enter
-    ≡ frame (childOf (rlens p) (f .rec) (byte (codeOf p f) (f .at + 3))) 0 ∷ frame (f .rec) (f .at + 4) ∷ under
+    ≡ frame (childOf (rlens p) (f .rec) (arg (codeOf p f) (f .at) 2)) 0 ∷ frame (f .rec) (next (codeOf p f) (f .at)) ∷ under
 unfolding oneStep
 def-entered p f under i = rw (enter-def (recAt p (f .rec)) (f .at) i)
 
 -- "and the run guarantee": so in every frame of a run, by what demand 3 says of frames
 module _ {p : Pattern} {f : Frame} (h : FrameHolds p f) where
   at-operand : {k : Kind} {xs : List Role} → Shaped (codeOf p f) (f .at) k xs → (i : ℕ) → i < length xs
-      → Below (recAt p (f .rec)) (getD xs i plain) (getD (operands (fields k) (codeOf p f) (f .at + 1)) i 0)
-  at-operand s i l = let k = s .kind-is in let q = s .roles-are in rw (k, q) at (h .operands i) l
+      → Below (recAt p (f .rec)) (getD xs i plain) (arg (codeOf p f) (f .at) i)
+  at-operand s i l = let q = s .roles-are in rw q at (h .operands i) l
 
-  pub getidx0-frame : opcode (codeOf p f) (f .at) ≡ number GETIDX0 → byte (codeOf p f) (f .at + 2) < recAt p (f .rec) .nregs
-  unfolding operands
-  getidx0-frame e =
-      let two : f .at + 1 + 1 ≡ f .at + 2 = omega arith in
-      rw two at (at-operand (getidx0-shape (codeOf p f) (f .at) e) 1 (omega arith))
+  pub getidx0-frame : opcode (codeOf p f) (f .at) ≡ number GETIDX0 → arg (codeOf p f) (f .at) 1 < recAt p (f .rec) .nregs
+  getidx0-frame e = at-operand (getidx0-shape (codeOf p f) (f .at) e) 1 (omega arith)
 
-  pub send0-frame : IsSend0 (codeOf p f) (f .at) → byte (codeOf p f) (f .at + 2) < recAt p (f .rec) .nsyms
-  unfolding operands
-  send0-frame i =
-      let two : f .at + 1 + 1 ≡ f .at + 2 = omega arith in
-      rw two at (at-operand (send0-shape (codeOf p f) (f .at) i) 1 (omega arith))
+  pub send0-frame : IsSend0 (codeOf p f) (f .at) → arg (codeOf p f) (f .at) 1 < recAt p (f .rec) .nsyms
+  send0-frame i = at-operand (send0-shape (codeOf p f) (f .at) i) 1 (omega arith)
 
   pub def-frame : IsDef (codeOf p f) (f .at)
-      → (byte (codeOf p f) (f .at + 2) < recAt p (f .rec) .nsyms) × (byte (codeOf p f) (f .at + 3) < recAt p (f .rec) .rlen)
-  unfolding operands
-  def-frame i =
-      let s = def-shape (codeOf p f) (f .at) i in
-      let two : f .at + 1 + 1 ≡ f .at + 2 = omega arith in
-      let three : f .at + 1 + 1 + 1 ≡ f .at + 3 = omega arith in
-      (rw two at (at-operand s 1 (omega arith)), rw three at (at-operand s 2 (omega arith)))
+      → (arg (codeOf p f) (f .at) 1 < recAt p (f .rec) .nsyms) × (arg (codeOf p f) (f .at) 2 < recAt p (f .rec) .rlen)
+  def-frame i = let s = def-shape (codeOf p f) (f .at) i in (at-operand s 1 (omega arith), at-operand s 2 (omega arith))

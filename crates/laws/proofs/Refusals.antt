@@ -1,4 +1,4 @@
--- Demand 1: a load refuses only by 1 to 14, 27 and 28, an examination by 1 to 20, 27 and 28, follow by 1 to 21, 27 and 28, a lookup by 22 alone and
+-- Demand 1: a load refuses only by 1 to 14, 27 and 28, an examination by 1 to 20, 25, 27 and 28, follow by 1 to 21, 25, 27 and 28, a lookup by 22 alone and
 -- fetch by 23 and 24 alone, so no refusal is 0; and after a refusal every lent table is zero throughout.
 -- Assumes nothing.
 use Prim.Native.Nat.{ℕ, zero, suc, _+_, _/_}
@@ -18,7 +18,7 @@ use Rattle.format.specs.Load.{Nine, Words, tablesOf, used, fits, ending, loadin
 use Rattle.format.specs.Insn.{kind, known, row, width, fetchAs, fetch}
 use Rattle.format.specs.Lookup as look
 use Rattle.format.specs.Pattern.{Pattern, patternOf}
-use Rattle.format.specs.Exam.{Meets, meets15, meets16, meets17, meets18, meets19, meets20, examinePattern, passing, examining, examine}
+use Rattle.format.specs.Exam.{Meets, meets15, meets16, meets17, meets18, meets19, meets20, meets25, examinePattern, passing, examining, examine}
 use Rattle.format.specs.Run.{kind as due-kind, choices, following, Followed, follow, laidFrames, frameTable}
 use Rattle.format.proofs.Answers.{ok-refused, either, Refuses, NotZero, weaker, answered, tested, chained}
 use Rattle.runs.proofs.Refusal.{refusal-met}
@@ -69,6 +69,7 @@ meets-among p n (meets17 x) = tt
 meets-among p n (meets18 x) = tt
 meets-among p n (meets19 x) = tt
 meets-among p n (meets20 x) = tt
+meets-among p n (meets25 x) = tt
 
 module _ (f : List ℕ) where
   loading-refuses : (m : Nine) → Refuses (Among loadNumbers) (loading f m)

@@ -1,5 +1,5 @@
 -- Paper 01's starred samples, as one table of the definitions, with some that it does not star, those of ident and size as paper 02's g) has them,
--- constants as its d) reads them and newer opcodes as its c) does; and sample A as a file that passes.
+-- constants as its d) reads them, newer opcodes as its c) and prefixes as its b) do; and sample A as a file that passes.
 -- Assumes nothing.
 use Prim.Native.Nat.{ℕ}
 use mathlib.Core.Path.{_≡_, refl}
@@ -10,7 +10,7 @@ use lib.IntN.{pos, negsuc}
 use lib.ListN.{replicate, take, set}
 use Rattle.format.specs.Bytes.{Answer, ok, refused, step, noZero, int64At}
 use Rattle.format.specs.Rows.{textRow, lineRow}
-use Rattle.format.specs.Insn.{W, S, table, row, operands, opcode, rest, lastOf, jump, target, insn, fetchAs, fetch}
+use Rattle.format.specs.Insn.{Z, W, S, table, row, operands, opcode, rest, lastOf, jump, target, insn, fetchAs, fetch}
 use Rattle.format.specs.Irep.{handler, poolText, symbolText, bigInteger, poolValue, poolEntry, counted, headAt, bodyAt, recordAt, recordsFrom, irepSection}
 use Rattle.format.specs.Walk.{walk}
 use Rattle.format.specs.Lvar.{plainText, nameEntry, recordNames, lvarSection}
@@ -22,7 +22,7 @@ use Rattle.format.specs.Line.{halve, lineAt, rising}
 use Rattle.format.specs.Lookup.{recordIn, rowIn, bytesIn, Constant, text, int, constantAt, constantOf, pool}
 use Rattle.format.specs.Tree.{layout, whole, span, childOf}
 use Rattle.format.specs.Pattern.{Record, patternOf, reach, lands}
-use Rattle.format.specs.Exam.{FilePasses, readable, below, allBelow, operandsBelow, follows, firstAt, firstOf, exam16, exam1718, exam19, exam20}
+use Rattle.format.specs.Exam.{FilePasses, stray, readable, below, allBelow, operandsBelow, follows, firstAt, firstOf, exam16, exam1718, exam19, exam20}
 use Rattle.format.specs.Exam.{examineRecord, examineAll, examinePattern, passing, examining, examine}
 use Rattle.format.specs.Run.{Choice, frame, go-on, enter, caught, leave, childOperand, move, oneStep, runFrom, run, choicesFrom, choices, finished, stands}
 use Rattle.format.specs.Run.{standing, laidFrames, frameTable, following, follow}
@@ -82,6 +82,10 @@ family c =
     let one : Record = record { nregs = 3; rlen = 0; npool = 2; nsyms = 0; code = 61 ∷ 0 ∷ []; handlers = []; lines = [] } in
     record { nregs = 3; rlen = 2; npool = 2; nsyms = 1; code = c ++ 61 ∷ 0 ∷ []; handlers = []; lines = [] } ∷ one ∷ one ∷ []
 
+-- Paper 02, b): a record with these instructions before STOP and 300 registers, constants and symbols, so that 299 is 1, 43
+oval : List ℕ → List Record
+oval c = record { nregs = 300; rlen = 0; npool = 300; nsyms = 300; code = c ++ 118 ∷ []; handlers = []; lines = [] } ∷ []
+
 record Table : Type 0 where
   a-loads : load fileA (lent 38) .answer ≡ ok (lent 1)
   a-row : load fileA (lent 38) .tables .records ≡ 24 ∷ 1 ∷ 2 ∷ 0 ∷ 0 ∷ 4 ∷ 48 ∷ replicate 31 0
@@ -124,6 +128,31 @@ record Table : Type 0 where
   addilv-any : examinePattern (family (73 ∷ 0 ∷ 255 ∷ 255 ∷ [])) ≡ 0
   tdef-enters : run (family (107 ∷ 0 ∷ 0 ∷ 1 ∷ [])) (enter ∷ []) ≡ frame 2 0 ∷ frame 0 4 ∷ []
   sdef-enters : run (family (108 ∷ 0 ∷ 0 ∷ 0 ∷ [])) (enter ∷ []) ≡ frame 1 0 ∷ frame 0 4 ∷ []
+  ext1-last : examinePattern (oval (115 ∷ 17 ∷ 1 ∷ 43 ∷ [])) ≡ 0
+  ext1-high : examinePattern (oval (115 ∷ 17 ∷ 1 ∷ 44 ∷ [])) ≡ 17
+  ext2-last : examinePattern (oval (116 ∷ 2 ∷ 0 ∷ 1 ∷ 43 ∷ [])) ≡ 0
+  ext2-high : examinePattern (oval (116 ∷ 2 ∷ 0 ∷ 1 ∷ 44 ∷ [])) ≡ 17
+  ext2-low-byte-first : examinePattern (oval (116 ∷ 2 ∷ 0 ∷ 43 ∷ 1 ∷ [])) ≡ 17
+  ext3-last : examinePattern (oval (117 ∷ 2 ∷ 1 ∷ 43 ∷ 1 ∷ 43 ∷ [])) ≡ 0
+  ext3-third-a-byte : examinePattern (oval (117 ∷ 47 ∷ 1 ∷ 43 ∷ 1 ∷ 43 ∷ 7 ∷ [])) ≡ 0
+  ext2-keeps-bs : examinePattern (oval (116 ∷ 39 ∷ 0 ∷ 0 ∷ 0 ∷ [])) ≡ 0
+  ext2-keeps-s : examinePattern (oval (116 ∷ 38 ∷ 0 ∷ 0 ∷ [])) ≡ 0
+  ext1-keeps-z : examinePattern (oval (115 ∷ 0 ∷ [])) ≡ 0
+  ext-last-in-record : examinePattern (alone (115 ∷ [])) ≡ 25
+  ext-twice : examinePattern (oval (115 ∷ 116 ∷ 0 ∷ [])) ≡ 25
+  ext-unknown : examinePattern (oval (115 ∷ 119 ∷ [])) ≡ 16
+  ext-cut : examinePattern (alone (115 ∷ 17 ∷ 0 ∷ [])) ≡ 16
+  ext-before-unknown : examinePattern (oval (115 ∷ 115 ∷ 119 ∷ [])) ≡ 25
+  ext-behind-unknown : examinePattern (oval (119 ∷ 115 ∷ 115 ∷ [])) ≡ 16
+  ext-behind-high : examinePattern (oval (115 ∷ 17 ∷ 1 ∷ 44 ∷ 115 ∷ 115 ∷ [])) ≡ 25
+  ext-jumped-to : examinePattern (oval (38 ∷ 0 ∷ 0 ∷ 115 ∷ 0 ∷ [])) ≡ 0
+  ext-jumped-behind : examinePattern (oval (38 ∷ 0 ∷ 1 ∷ 115 ∷ 0 ∷ [])) ≡ 18
+  ext-jumps-to-itself : examinePattern (alone (115 ∷ 38 ∷ 255 ∷ 252 ∷ [])) ≡ 0
+  ext-jumps-behind-itself : examinePattern (alone (115 ∷ 38 ∷ 255 ∷ 253 ∷ [])) ≡ 18
+  ext-goes-on : run (oval (115 ∷ 17 ∷ 1 ∷ 43 ∷ [])) (go-on ∷ []) ≡ frame 0 4 ∷ []
+  ext2-enters : run (family (116 ∷ 98 ∷ 0 ∷ 0 ∷ 1 ∷ [])) (enter ∷ []) ≡ frame 2 0 ∷ frame 0 5 ∷ []
+  ext3-third-enters : run (family (117 ∷ 107 ∷ 0 ∷ 0 ∷ 0 ∷ 0 ∷ 1 ∷ [])) (enter ∷ []) ≡ frame 2 0 ∷ frame 0 7 ∷ []
+  ext-fetches-alone : fetch (115 ∷ 17 ∷ 1 ∷ 43 ∷ []) ≡ ok (insn Z [])
   packed-two : packed (129 ∷ 1 ∷ []) 0 ≡ ok (step 129 2)
   packed-most : packed (255 ∷ 255 ∷ 255 ∷ 255 ∷ 15 ∷ []) 0 ≡ ok (step 4294967295 5)
   packed-dropped : packed (255 ∷ 255 ∷ 255 ∷ 255 ∷ 127 ∷ []) 0 ≡ ok (step 4294967295 5)
@@ -156,8 +185,8 @@ samples : Table
 unfolding table row operands opcode rest lastOf jump target fetchAs fetch packedFrom packed halve lineAt handler poolText symbolText bigInteger poolValue
     poolEntry counted headAt bodyAt recordAt recordsFrom irepSection walk noZero plainText nameEntry recordNames lvarSection fileHead mapEntry
     mapLines filesFrom debugRecord debugContent debugSection packedEntry endSection sectionAt sections fileRefusal fileReading fits ending loading load sized
-    endAlone lent alone family fileD lentPool constantD zeroInside recordIn rowIn bytesIn constantAt constantOf pool
-    rising layout span childOf reach lands readable below allBelow operandsBelow follows firstAt firstOf exam16 exam1718 exam19 exam20 examineRecord
+    endAlone lent alone family oval fileD lentPool constantD zeroInside recordIn rowIn bytesIn constantAt constantOf pool
+    rising layout span childOf reach lands stray readable below allBelow operandsBelow follows firstAt firstOf exam16 exam1718 exam19 exam20 examineRecord
     examineAll examinePattern passing examining examine childOperand move oneStep runFrom choicesFrom standing laidFrames frameTable following follow
 samples = record {
   a-loads = refl;
@@ -201,6 +230,31 @@ samples = record {
   addilv-any = refl;
   tdef-enters = refl;
   sdef-enters = refl;
+  ext1-last = refl;
+  ext1-high = refl;
+  ext2-last = refl;
+  ext2-high = refl;
+  ext2-low-byte-first = refl;
+  ext3-last = refl;
+  ext3-third-a-byte = refl;
+  ext2-keeps-bs = refl;
+  ext2-keeps-s = refl;
+  ext1-keeps-z = refl;
+  ext-last-in-record = refl;
+  ext-twice = refl;
+  ext-unknown = refl;
+  ext-cut = refl;
+  ext-before-unknown = refl;
+  ext-behind-unknown = refl;
+  ext-behind-high = refl;
+  ext-jumped-to = refl;
+  ext-jumped-behind = refl;
+  ext-jumps-to-itself = refl;
+  ext-jumps-behind-itself = refl;
+  ext-goes-on = refl;
+  ext2-enters = refl;
+  ext3-third-enters = refl;
+  ext-fetches-alone = refl;
   packed-two = refl;
   packed-most = refl;
   packed-dropped = refl;

@@ -10,25 +10,27 @@ use lib.Dec.{T, eqb}
 use lib.ListN.{length, take, drop}
 use borrow.Author.Tests.{lt-ltb, le-ltb, ne-eqb}
 use Rattle.format.specs.Bytes.{byte, u16At}
-use Rattle.format.specs.Insn.{Flow, on, ends, jumps, may, roles, flow, opcode, rowAt, operandsAt, rest, next, target}
+use Rattle.format.specs.Insn.{Flow, on, ends, jumps, may, roles, flow, secondWidth, operand, opcode, rowAt, operandsAt, next, target}
 use Rattle.format.specs.Lookup.{word}
 use Rattle.format.specs.Pattern.{Record, begins, lands}
-use Rattle.format.specs.Exam.{leads, hasTarget, follows}
+use Rattle.format.specs.Exam.{stray, readable, leads, hasTarget, follows}
 use Rattle.format.specs.Run.{Choice, go-on, jump, enter, leave, caught, isChild, childOperand, Move, gone, to, into, goes, jumped, move}
 use Rattle.format.proofs.Table.{both}
 use Rattle.format.proofs.RowsFrom.{rowsFrom-length, rowsFrom-at}
 use Rattle.runs.specs.Stack.{Stands, Jumps}
+use Rattle.runs.specs.Places.{secondPlace, thirdPlace}
+use Rattle.flags.specs.Flags.{Entire}
 use Rattle.runs.proofs.Begins.{reach-inside}
-use Rattle.runs.proofs.Operands.{role-inside, roleIn, child-numbers, child-bytes}
+use Rattle.runs.proofs.Operands.{roleIn, child-places}
 use Rattle.runs.proofs.Jumps as laws
-use Rattle.runs.proofs.Jumps.{readable-whole}
+use Rattle.runs.proofs.Exact.{met-none}
 use Rattle.opcode.specs.declared.OpRow.{OpRow}
 use Rattle.opcode.specs.declared.Flow as insn-flow
 use Rattle.opcode.specs.Rows.{RowView, rowOf, opRow, flowOf}
 use Rattle.exam.specs.View.{codeAt, targetAt, targets}
 use Rattle.moves.specs.declared.Choice as moves
 use Rattle.moves.specs.declared.Choice.the-variants.{GoOn, Jump, Enter, Caught, Leave}
-use Rattle.moves.specs.Answers.{choiceOf, childAmong}
+use Rattle.moves.specs.Answers.{choiceOf, childAmong, childNumber}
 use Rattle.moves.specs.Part.{part, partAt}
 
 -- a move sees a record's instruction bytes and handlers alone
@@ -40,13 +42,12 @@ move-part r o enter = refl
 move-part r o leave = refl
 move-part r o (caught h) = refl
 
--- the numbers of an instruction where a frame stands
-pub record Room (c : List ℕ) (o : ℕ) : Type 0 where
-  pub inside : o < length c
-  pub whole : next c o ≤ length c
+-- an instruction where a frame stands, and a jump there
+pub entire : {c : List ℕ} {o : ℕ} → Stands c o → Entire c o
+entire {c} {o} s = record { inside = reach-inside c 0 o (s .starts); none = met-none (stray c o) (readable c o) (s .paired) (s .reads) }
 
-pub room : {c : List ℕ} {o : ℕ} → Stands c o → Room c o
-room {c} {o} s = record { inside = reach-inside c 0 o (s .starts); whole = readable-whole c o (s .reads) }
+pub entire-jump : {c : List ℕ} {o : ℕ} → Jumps c o → Entire c o
+entire-jump {c} {o} j = record { inside = reach-inside c 0 o (j .starts); none = met-none (stray c o) (readable c o) (j .paired) (j .reads) }
 
 -- n: the next offset; x, y: the bytes of the jump's operand
 module _ {c : List ℕ} {o n x y : ℕ} (j : Jumps c o) (en : n ≡ next c o) (ex : x ≡ byte c (n - 2)) (ey : y ≡ byte c (n - 2 + 1)) where
@@ -69,17 +70,16 @@ has-target jumps n t h l = l
 has-target may n t h l = search both
 
 -- r: the row that the code looked up; w: its flow
-module _ (c : List ℕ) (o : ℕ) (r : OpRow) (e : rowOf r ≡ opRow (byte c o)) {w : insn-flow.Flow} (q : r .flow ≡ w) where
+module _ (c : List ℕ) (o : ℕ) (r : OpRow) {b : ℕ} (eb : b ≡ opcode c o) (er : rowOf r ≡ opRow b) {w : insn-flow.Flow} (q : r .flow ≡ w) where
   flow-is : flow (rowAt c o) ≡ flowOf w
-  unfolding opcode
-  flow-is = sym (ap (λ (v : RowView). v .flow) e) ∙ ap flowOf q
+  flow-is = let e = er ∙ ap opRow eb in sym (ap (λ (v : RowView). v .flow) e) ∙ ap flowOf q
 
   -- where the flow has a target, a jump stands there
   pub jumps-here : T (hasTarget (flowOf w)) → Stands c o → Jumps c o
   unfolding follows
   jumps-here h s =
       let t : T (hasTarget (flow (rowAt c o))) = subst (λ (f : Flow). T (hasTarget f)) (sym flow-is) h in
-      record { starts = s .starts; jump = t; reads = s .reads; goes = has-target (flow (rowAt c o)) (begins c (next c o)) (lands c o) t (s .goes) }
+      record { starts = s .starts; jump = t; paired = s .paired; reads = s .reads; goes = has-target (flow (rowAt c o)) (begins c (next c o)) (lands c o) t (s .goes) }
 
   -- 0
   pub on-is : goes (flowOf w) (next c o) (target c o) ≡ move (part c []) o go-on
@@ -110,39 +110,28 @@ module _ (v : RowView) {y : Bool} (ey : y ≡ isChild (v .second)) where
 
 -- the child operand by its number, counted from 1
 abbrev childBy : List ℕ → ℕ → ℕ → Option ℕ
-childBy c o n = cond (eqb n 0) none (some (byte c (o + n)))
+childBy c o n = cond (eqb n 0) none (some (childNumber c o n))
 
-child-is : (c : List ℕ) (o : ℕ) → childOperand (roles (rowAt c o)) (operandsAt c o) ≡ childBy c o (childAmong (opRow (byte c o)))
-unfolding opcode
-child-is c o = child-bytes c o ∙ go (isChild (roleIn c o 1)) (isChild (roleIn c o 2))
+child-is : (c : List ℕ) (o : ℕ) → childOperand (roles (rowAt c o)) (operandsAt c o) ≡ childBy c o (childAmong (opRow (opcode c o)))
+child-is c o = child-places c o ∙ go (isChild (roleIn c o 1)) (isChild (roleIn c o 2))
   where
-    go : (y z : Bool) → cond y (some (byte c (o + 2))) (cond z (some (byte c (o + 3))) none) ≡ childBy c o (cond y 2 (cond z 3 0))
+    go : (y z : Bool)
+        → cond y (some (operand (secondWidth (byte c o)) c (secondPlace c o))) (cond z (some (byte c (thirdPlace c o))) none)
+        ≡ childBy c o (cond y 2 (cond z 3 0))
     go true z = refl
     go false true = refl
     go false false = refl
 
 -- n: the child operand that the code found
-module _ (c : List ℕ) (o n : ℕ) (e : n ≡ childAmong (opRow (byte c o))) where
+module _ (c : List ℕ) (o n : ℕ) (e : n ≡ childAmong (opRow (opcode c o))) where
   -- where there is none
   pub enter-on : {m : Move} → n ≡ 0 → m ≡ move (part c []) o go-on → m ≡ move (part c []) o enter
   unfolding move
   enter-on z g = g ∙ rw (child-is c o, ← e, z)
 
   module _ (z : n ≡ 0 → ⊥) where
-    -- the child's number stands inside the instruction
-    pub child-inside : Stands c o → o + n < length c
-    unfolding rest opcode
-    child-inside s = go (isChild (roleIn c o 1)) (isChild (roleIn c o 2)) refl refl e
-      where
-        go : (y q : Bool) → isChild (roleIn c o 1) ≡ y → isChild (roleIn c o 2) ≡ q → n ≡ cond y 2 (cond q 3 0) → o + n < length c
-        go true q ey eq en =
-            omega (arith, readable-whole c o (s .reads), role-inside (byte c o) 1 (child-numbers (roleIn c o 1) ey))
-        go false true ey eq en =
-            omega (arith, readable-whole c o (s .reads), role-inside (byte c o) 2 (child-numbers (roleIn c o 2) eq))
-        go false false ey eq en = absurd (z en)
-
     -- 2
-    pub enter-is : {k m : ℕ} → k ≡ byte c (o + n) → m ≡ next c o → into k m ≡ move (part c []) o enter
+    pub enter-is : {k m : ℕ} → k ≡ childNumber c o n → m ≡ next c o → into k m ≡ move (part c []) o enter
     unfolding move
     enter-is ek em = rw (child-is c o, ← e, ne-eqb n 0 z, ek, em)
 

@@ -4,9 +4,12 @@ use Prim.Native.Nat.{ℕ, _≤_, _<_}
 use mathlib.Core.Path.{_≡_}
 use mathlib.Core.Bool.{cond}
 use mathlib.Core.List.{List}
+use lib.Dec.{eqb}
 use lib.ListN.{length, drop}
-use Rattle.format.specs.Bytes.{refused}
+use Rattle.format.specs.Bytes.{byte, refused}
+use Rattle.format.specs.Insn.{secondWidth, operand}
 use Rattle.format.specs.Run as format
+use Rattle.runs.specs.Places.{secondPlace, thirdPlace}
 use Rattle.opcode.specs.Rows.{RowView}
 use Rattle.moves.specs.declared.Choice.{Choice}
 use Rattle.moves.specs.declared.Choice.the-variants as choice
@@ -30,6 +33,10 @@ moveOf (moved.Into k o) = format.into k o
 -- which operand of an opcode numbers a child: 2 for the second, 3 for the third, 0 where none does
 abbrev pub childAmong : RowView → ℕ
 childAmong v = cond (format.isChild (v .second)) 2 (cond (format.isChild (v .third)) 3 0)
+
+-- the number that the second operand (n is 2) or the third of the instruction at o holds, where it is a child's
+abbrev pub childNumber : List ℕ → ℕ → ℕ → ℕ
+childNumber c o n = cond (eqb n 2) (operand (secondWidth (byte c o)) c (secondPlace c o)) (byte c (thirdPlace c o))
 
 -- the choice c stands at place i of the bytes, and j is the place after it
 pub record NextIs (bs : List ℕ) (i : ℕ) (c : Choice) (j : ℕ) : Type 0 where

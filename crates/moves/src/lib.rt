@@ -1,22 +1,27 @@
 // The choices of a run, and what each does to the top frame.
 use exam::word;
+use flags::next_offset;
+use flags::opcode_at;
+use flags::operand_at;
 use opcode::Flow;
 use opcode::OpRow;
 use opcode::Role;
+use opcode::first_width;
+use opcode::lead;
 use opcode::op_row;
-use opcode::size;
+use opcode::second_width;
 ghost use mathlib.Core.Path.{_≡_};
 ghost use mathlib.Core.List.{[]};
 ghost use Prim.Native.Nat.{_+_, _*_, _<_, _≤_};
 ghost use lib.ListN.{length, getD};
-ghost use Rattle.format.specs.Insn.{next, target};
+ghost use Rattle.format.specs.Insn.{target};
 ghost use Rattle.format.specs.Lookup as table;
 ghost use Rattle.format.specs.Tree.{childOf};
 ghost use Rattle.format.specs.Run as format;
 ghost use Rattle.runs.specs.Stack.{Stands, Jumps};
 ghost use Rattle.opcode.specs.Rows.{roleOf, rowOf};
 ghost use Rattle.exam.specs.View.{targets, codeAt, rlensAt};
-ghost use Rattle.moves.specs.Answers.{choiceOf, moveOf, childAmong, ReadAt};
+ghost use Rattle.moves.specs.Answers.{choiceOf, moveOf, childAmong, childNumber, ReadAt};
 ghost use Rattle.moves.specs.Part.{part, partAt};
 
 // A choice. Caught has the handler's number.
@@ -93,14 +98,6 @@ pub fn choice_at(choices: &[u8], i: usize) -> Read
     }
 }
 
-// The offset behind the instruction at `o`.
-fn next_offset(code: &[u8], o: usize) -> usize
-    requires { ⌜ (o < length (now code)) × (next (now code) o ≤ length (now code)) ⌝ }
-    ensures { λ r. ⌜ r ≡ next (now (code .entry)) o ⌝ }
-{
-    o + size(code[o])
-}
-
 // Where the jump at `o` goes: its last two bytes are added to the next offset, signed.
 fn jump_target(code: &[u8], o: usize) -> usize
     requires { ⌜ Jumps (now code) o ⌝ }
@@ -121,7 +118,7 @@ fn go_on(code: &[u8], o: usize) -> Moved
     requires { ⌜ Stands (now code) o ⌝ }
     ensures { λ m. ⌜ moveOf m ≡ format.move (part (now (code .entry)) []) o format.go-on ⌝ }
 {
-    let op = op_row(code[o]);
+    let op = op_row(opcode_at(code, o));
     let flow = op.flow;
     match flow {
         Flow::On => Moved::To(next_offset(code, o)),
@@ -136,7 +133,7 @@ fn jump(code: &[u8], o: usize) -> Moved
     requires { ⌜ Stands (now code) o ⌝ }
     ensures { λ m. ⌜ moveOf m ≡ format.move (part (now (code .entry)) []) o format.jump ⌝ }
 {
-    let op = op_row(code[o]);
+    let op = op_row(opcode_at(code, o));
     let flow = op.flow;
     match flow {
         Flow::On => go_on(code, o),
@@ -173,16 +170,30 @@ fn child_operand(op: OpRow) -> usize
     0
 }
 
+// The number that the second operand (`n` is 2) or the third of the instruction at `o` holds.
+fn child_number(code: &[u8], o: usize, n: usize) -> usize
+    requires { ⌜ o < length (now code) ⌝ }
+    ensures { λ r. ⌜ r ≡ childNumber (now (code .entry)) o n ⌝ }
+{
+    let b = code[o];
+    let second = o + lead(b) + 1 + first_width(b);
+    let width = second_width(b);
+    if n == 2 {
+        return operand_at(code, second, width);
+    }
+    operand_at(code, second + width, 1)
+}
+
 // Choice 2: at an opcode with a child operand the child is entered.
 fn enter(code: &[u8], o: usize) -> Moved
     requires { ⌜ Stands (now code) o ⌝ }
     ensures { λ m. ⌜ moveOf m ≡ format.move (part (now (code .entry)) []) o format.enter ⌝ }
 {
-    let n = child_operand(op_row(code[o]));
+    let n = child_operand(op_row(opcode_at(code, o)));
     if n == 0 {
         return go_on(code, o);
     }
-    let child = wide(code[o + n]);
+    let child = child_number(code, o, n);
     let offset = next_offset(code, o);
     Moved::Into { child, offset }
 }

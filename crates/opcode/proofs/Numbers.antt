@@ -11,7 +11,7 @@ use Rattle.format.specs.Insn.{Kind, Z, B, BB, BBB, BS, BSS, S, W, Role, reg, po
 use Rattle.format.specs.Insn.{table, kind, flow, row, size}
 use Rattle.format.proofs.Table.{width-small}
 use Rattle.opcode.specs.Digits.{firstRole, secondRole, thirdRole, roleNumber, roleAt, flagInside, flagLast, flowAt, kindNumber, kindAt}
-use Rattle.opcode.specs.Digits.{rowDigits, instruction, digitsOf}
+use Rattle.opcode.specs.Digits.{firstByte, secondByte, rowDigits, instruction, digitsOf}
 
 pub at : {b k : ℕ} → b ≡ k → digitsOf k ≡ digitsOf b
 at e = ap digitsOf (sym e)
@@ -38,13 +38,13 @@ role-small pool = omega arith
 role-small symbol = omega arith
 role-small child = omega arith
 
-inside-small : (w : Flow) → flagInside w < 8
+pub inside-small : (w : Flow) → flagInside w < 8
 inside-small on = omega arith
 inside-small ends = omega arith
 inside-small jumps = omega arith
 inside-small may = omega arith
 
-last-small : (w : Flow) → flagLast w < 8
+pub last-small : (w : Flow) → flagLast w < 8
 last-small on = omega arith
 last-small ends = omega arith
 last-small jumps = omega arith
@@ -59,6 +59,26 @@ kind-small BS = omega arith
 kind-small BSS = omega arith
 kind-small S = omega arith
 kind-small W = omega arith
+
+first-byte-small : (k : Kind) → firstByte k < 8
+first-byte-small Z = omega arith
+first-byte-small B = omega arith
+first-byte-small BB = omega arith
+first-byte-small BBB = omega arith
+first-byte-small BS = omega arith
+first-byte-small BSS = omega arith
+first-byte-small S = omega arith
+first-byte-small W = omega arith
+
+second-byte-small : (k : Kind) → secondByte k < 8
+second-byte-small Z = omega arith
+second-byte-small B = omega arith
+second-byte-small BB = omega arith
+second-byte-small BBB = omega arith
+second-byte-small BS = omega arith
+second-byte-small BSS = omega arith
+second-byte-small S = omega arith
+second-byte-small W = omega arith
 
 -- each digit: d are the digits of an instruction of n bytes whose opcode has the row r
 module _ {d n : ℕ} (r : Row) (e : d ≡ rowDigits n r) (s : n < 64) where
@@ -84,6 +104,33 @@ module _ {d n : ℕ} (r : Row) (e : d ≡ rowDigits n r) (s : n < 64) where
   pub kind-digit : d / 2097152 % 8 ≡ kindNumber (kind r)
   kind-digit =
       omega (arith, role-small (firstRole r), role-small (secondRole r), role-small (thirdRole r), inside-small (flow r), last-small (flow r), kind-small (kind r))
+
+  pub first-byte-digit : d / 16777216 % 8 ≡ firstByte (kind r)
+  first-byte-digit =
+      omega (
+        arith,
+        role-small (firstRole r),
+        role-small (secondRole r),
+        role-small (thirdRole r),
+        inside-small (flow r),
+        last-small (flow r),
+        kind-small (kind r),
+        first-byte-small (kind r),
+      )
+
+  pub second-byte-digit : d / 134217728 % 8 ≡ secondByte (kind r)
+  second-byte-digit =
+      omega (
+        arith,
+        role-small (firstRole r),
+        role-small (secondRole r),
+        role-small (thirdRole r),
+        inside-small (flow r),
+        last-small (flow r),
+        kind-small (kind r),
+        first-byte-small (kind r),
+        second-byte-small (kind r),
+      )
 
 -- and what it is the number of
 pub role-back : (x : Role) → roleAt (roleNumber x) ≡ x

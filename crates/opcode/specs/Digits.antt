@@ -71,14 +71,36 @@ kindAt (suc (suc (suc (suc (suc zero))))) = BSS
 kindAt (suc (suc (suc (suc (suc (suc zero)))))) = S
 kindAt (suc (suc (suc (suc (suc (suc (suc x))))))) = W
 
+-- 1 where the first operand is a byte that a prefix can widen, and where the second is
+abbrev pub firstByte : Kind → ℕ
+firstByte Z = 0
+firstByte B = 1
+firstByte BB = 1
+firstByte BBB = 1
+firstByte BS = 1
+firstByte BSS = 1
+firstByte S = 0
+firstByte W = 0
+
+abbrev pub secondByte : Kind → ℕ
+secondByte Z = 0
+secondByte B = 0
+secondByte BB = 1
+secondByte BBB = 1
+secondByte BS = 0
+secondByte BSS = 0
+secondByte S = 0
+secondByte W = 0
+
 -- n in the two lowest digits, then these
-abbrev pub octal : ℕ → ℕ → ℕ → ℕ → ℕ → ℕ → ℕ → ℕ
-octal n x y z f g k = n + 64 * (x + 8 * (y + 8 * (z + 8 * (f + 8 * (g + 8 * k)))))
+abbrev pub octal : ℕ → ℕ → ℕ → ℕ → ℕ → ℕ → ℕ → ℕ → ℕ → ℕ
+octal n x y z f g k u v = n + 64 * (x + 8 * (y + 8 * (z + 8 * (f + 8 * (g + 8 * (k + 8 * (u + 8 * v)))))))
 
 -- the digits of an instruction of n bytes whose opcode has this row
 abbrev pub rowDigits : ℕ → Row → ℕ
 rowDigits n r =
     octal n (roleNumber (firstRole r)) (roleNumber (secondRole r)) (roleNumber (thirdRole r)) (flagInside (flow r)) (flagLast (flow r)) (kindNumber (kind r))
+    (firstByte (kind r)) (secondByte (kind r))
 
 -- a known opcode that is no prefix
 abbrev pub instruction : ℕ → Bool

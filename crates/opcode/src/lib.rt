@@ -1,4 +1,4 @@
-// What is known of each opcode byte: operand kind, what its operands number, where a run goes on, size.
+// What is known of each opcode byte: operand kind, what its operands number, where a run goes on, size; and what each prefix says.
 pub use opcode_kind::Kind;
 ghost use mathlib.Core.Path.{_≡_};
 ghost use Rattle.format.specs.Insn as format;
@@ -41,15 +41,15 @@ pub struct OpRow {
 // Operand kinds, each with the size of its instructions.
 const Z: usize = 1;
 
-const B: usize = KIND + 2;
+const B: usize = KIND + FIRST_BYTE + 2;
 
-const BB: usize = 2 * KIND + 3;
+const BB: usize = 2 * KIND + FIRST_BYTE + SECOND_BYTE + 3;
 
-const BBB: usize = 3 * KIND + 4;
+const BBB: usize = 3 * KIND + FIRST_BYTE + SECOND_BYTE + 4;
 
-const BS: usize = 4 * KIND + 4;
+const BS: usize = 4 * KIND + FIRST_BYTE + 4;
 
-const BSS: usize = 5 * KIND + 6;
+const BSS: usize = 5 * KIND + FIRST_BYTE + 6;
 
 const S: usize = 6 * KIND + 3;
 
@@ -109,10 +109,10 @@ const S_JUMPS: usize = S + JUMPS;
 
 const W_ON: usize = W + ON;
 
-// A prefix opcode and a byte above 118 begin no instruction: NOP's row without a size.
+// A prefix and a byte above 118 are no instruction by themselves: NOP's row without a size.
 const NO_SIZE: usize = ON;
 
-// The digits of an opcode byte. Its size is 0 where it begins no instruction.
+// The digits of an opcode byte. Its size is 0 where it is no instruction by itself.
 pub fn digits(b: u8) -> usize
     ensures { λ r. ⌜ r ≡ digitsOf b ⌝ }
 {
@@ -310,4 +310,38 @@ pub fn size(b: u8) -> usize
     let op = op_row(b);
     let kind = op.kind;
     kind.size()
+}
+
+// What the first byte of an instruction says of it: how many bytes stand before its opcode byte,
+pub fn lead(b: u8) -> usize
+    ensures { λ r. ⌜ r ≡ format.lead b ⌝ }
+{
+    match b {
+        EXT1 => 1,
+        EXT2 => 1,
+        EXT3 => 1,
+        _ => 0,
+    }
+}
+
+// how many bytes a first operand has that is a byte without a prefix,
+pub fn first_width(b: u8) -> usize
+    ensures { λ r. ⌜ r ≡ format.firstWidth b ⌝ }
+{
+    match b {
+        EXT1 => 2,
+        EXT3 => 2,
+        _ => 1,
+    }
+}
+
+// and a second one.
+pub fn second_width(b: u8) -> usize
+    ensures { λ r. ⌜ r ≡ format.secondWidth b ⌝ }
+{
+    match b {
+        EXT2 => 2,
+        EXT3 => 2,
+        _ => 1,
+    }
 }

@@ -19,6 +19,11 @@ pub const LAST: usize = 0o1000000;
 // The operand kind.
 pub const KIND: usize = 0o10000000;
 
+// 1 where the first operand is a byte that a prefix can widen, and the second.
+pub const FIRST_BYTE: usize = 0o100000000;
+
+pub const SECOND_BYTE: usize = 0o1000000000;
+
 // Roles.
 pub const PLAIN: usize = 0;
 

@@ -81,7 +81,7 @@ module _ {f recs hs ls t : List ℕ} {n d : ℕ}
     good-record = subst Good (record-is f recs hs ls n r inside) (good .each-rec r (stack-is .0))
 
     pub top-stands : Stands (codeAt f recs r) o
-    top-stands = record { starts = starts; reads = good-record .reads o starts; goes = good-record .go o starts }
+    top-stands = record { starts = starts; paired = good-record .paired o starts; reads = good-record .reads o starts; goes = good-record .go o starts }
 
     pub standing-top : {a : ℕ} {x : Option ℕ} → a ≡ r → x ≡ lineAt (entries ls (word 19 recs r 17) (word 19 recs r 18)) o
         → ok (stands (frame a o) x d) ≡ ok (standing p (framesOf t d))

@@ -5,6 +5,7 @@ use native.Mathlib.Nat.{le-of-suc-le-suc, zero-add, suc-add, add-suc}
 use native.Mathlib.Omega.{arith}
 use mathlib.Core.Path.{_≡_, refl, ap}
 use mathlib.Core.Logic.{_↔_}
+use mathlib.Core.Bool.{false}
 use mathlib.Core.List.{List, [], _∷_}
 use lib.Dec.{T}
 use lib.ListN.{length, drop, length-drop}
@@ -39,6 +40,26 @@ reach-next (b ∷ c) (suc left) (suc o) t h = rw suc-add (reach-next c left o t 
 
 pub begins-next : (c : List ℕ) (o : ℕ) → T (begins c o) → next c o < length c → T (begins c (next c o))
 begins-next c o t h = reach-next c 0 o t h
+
+-- and none begins before it
+reach-within : (c : List ℕ) (left o : ℕ) → o < left → reach c left o ≡ false
+unfolding reach
+reach-within [] left o h = refl
+reach-within (b ∷ c) zero o h = absurd (omega arith)
+reach-within (b ∷ c) (suc left) zero h = refl
+reach-within (b ∷ c) (suc left) (suc o) h = reach-within c left o (le-of-suc-le-suc h)
+
+reach-between : (c : List ℕ) (left o j : ℕ) → T (reach c left o) → o < j → j < next c o → reach c left j ≡ false
+unfolding reach
+reach-between [] left o j t g h = refl
+reach-between (b ∷ c) left o zero t g h = absurd (omega arith)
+reach-between (b ∷ c) zero zero (suc j) t g h = reach-within c (rest b c) j (omega arith)
+reach-between (b ∷ c) zero (suc o) (suc j) t g h = reach-between c (rest b c) o j t (omega arith) (omega arith)
+reach-between (b ∷ c) (suc left) zero (suc j) t g h = absurd t
+reach-between (b ∷ c) (suc left) (suc o) (suc j) t g h = reach-between c left o j t (omega arith) (omega arith)
+
+pub begins-between : (c : List ℕ) (o j : ℕ) → T (begins c o) → o < j → j < next c o → begins c j ≡ false
+begins-between c o j t g h = reach-between c 0 o j t g h
 
 to-test : {c : List ℕ} {o : ℕ} → Begins c o → T (begins c o)
 to-test {c} (at-zero h) = pass c 0 h

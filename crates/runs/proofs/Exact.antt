@@ -3,7 +3,8 @@
 use Prim.Native.Nat.{ℕ, zero, suc, _<_}
 use native.Mathlib.Nat.{le-of-suc-le-suc, zero-add}
 use native.Mathlib.Omega.{arith}
-use mathlib.Core.Path.{_≡_}
+use mathlib.Core.Path.{_≡_, refl}
+use mathlib.Core.Bool.{Bool, true, false, not, cond}
 use mathlib.Core.List.{List, [], _∷_}
 use lib.Dec.{T, ltb, ltb→lt}
 use lib.ListN.{length, getD}
@@ -11,12 +12,13 @@ use Rattle.format.specs.Line.{rising}
 use Rattle.format.specs.Tree.{whole}
 use Rattle.format.specs.Pattern.{Record, Pattern, ilen, clen, recAt, blank, begins, rlens}
 use Rattle.format.specs.Bytes.{refuse}
-use Rattle.format.specs.Exam.{readable, operandsBelow, follows, firstAt, at16, at1718, exam16, exam1718, exam19, exam20, examineRecord, examineAll, examinePattern}
+use Rattle.format.specs.Exam.{stray, readable, operandsBelow, follows, firstAt, at16, at1718, exam16, exam1718, exam19, exam20, examineRecord, examineAll, examinePattern}
 use Rattle.format.proofs.Answers.{first-zero, refuse-zero}
 use Rattle.runs.proofs.Tests.{firstAt-zero, firstOf-zero}
 
 pub record Good (r : Record) : Type 0 where
   pub filled : 0 < ilen r
+  pub paired : (o : ℕ) → T (begins (r .code) o) → T (not (stray (r .code) o))
   pub reads : (o : ℕ) → T (begins (r .code) o) → T (readable (r .code) o)
   pub fit : (o : ℕ) → T (begins (r .code) o) → T (operandsBelow r o)
   pub go : (o : ℕ) → T (begins (r .code) o) → T (follows (r .code) o)
@@ -27,6 +29,19 @@ pub record Good (r : Record) : Type 0 where
 each : (f : ℕ → ℕ) (c : List ℕ) → firstAt f c 0 0 ≡ 0 → (o : ℕ) → T (begins c o) → f o ≡ 0
 each f c e o t = rw zero-add at (firstAt-zero f c 0 0 e o t)
 
+-- neither 16 nor 25 at an instruction
+pub none-met : (s b : Bool) → cond s 25 (refuse 16 b) ≡ 0 → T (not s) × T b
+none-met true b e = absurd (omega arith)
+none-met false b e = (tt, refuse-zero 15 b e)
+
+pub met-none : (s b : Bool) → T (not s) → T b → cond s 25 (refuse 16 b) ≡ 0
+met-none true b t u = absurd t
+met-none false true t u = refl
+met-none false false t u = absurd u
+
+each-16 : (c : List ℕ) → firstAt (at16 c) c 0 0 ≡ 0 → (o : ℕ) → T (begins c o) → T (not (stray c o)) × T (readable c o)
+each-16 c e o t = none-met (stray c o) (readable c o) (each (at16 c) c e o t)
+
 pub good : (r : Record) → examineRecord r ≡ 0 → Good r
 unfolding examineRecord exam16 exam1718 exam19 exam20
 good r e =
@@ -35,9 +50,11 @@ good r e =
     let c = first-zero (exam19 r) _ (b .1) in
     let d = first-zero (refuse 16 (ltb 0 (ilen r))) _ (a .0) in
     let i = each (at1718 r) (r .code) (b .0) in
+    let j = each-16 (r .code) (d .1) in
     record {
       filled = ltb→lt 0 (ilen r) (refuse-zero 15 (ltb 0 (ilen r)) (d .0));
-      reads = λ o t. refuse-zero 15 (readable (r .code) o) (each (at16 (r .code)) (r .code) (d .1) o t);
+      paired = λ o t. j o t .0;
+      reads = λ o t. j o t .1;
       fit = λ o t. refuse-zero 16 (operandsBelow r o) (first-zero (refuse 17 (operandsBelow r o)) _ (i o t) .0);
       go = λ o t. refuse-zero 17 (follows (r .code) o) (first-zero (refuse 17 (operandsBelow r o)) (refuse 18 (follows (r .code) o)) (i o t) .1);
       caught = λ h g. refuse-zero 18 (begins (r .code) (getD (r .handlers) h 0)) (firstOf-zero (λ (t : ℕ). refuse 19 (begins (r .code) t)) (r .handlers) (c .0) h g);

@@ -30,6 +30,7 @@ module _ (p : Pattern) (G : GoodFile p) where
       record {
         inside = h;
         starts = begins-iff (codeOf p f) (f .at) .0 t;
+        paired = g .paired (f .at) t;
         whole = g .reads (f .at) t;
         operands =
             all-below (recAt p (f .rec)) (roles (rowAt (codeOf p f) (f .at))) (operandsAt (codeOf p f) (f .at)) (g .fit (f .at) t)

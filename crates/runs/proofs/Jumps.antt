@@ -9,13 +9,15 @@ use lib.Dec.{T, leb→le}
 use lib.ListN.{length}
 use borrow.Author.Tests.{lt-ltb, le-ltb}
 use Rattle.format.specs.Bytes.{byte, u16At}
-use Rattle.format.specs.Insn.{Kind, Z, B, BB, S, BBB, BS, W, BSS, Row, fields, width, kind, flow, row, table, opcode, operands, rowAt, operandsAt, rest, next, lastOf, jump, target}
+use Rattle.format.specs.Insn.{Kind, Z, B, BB, S, BBB, BS, W, BSS, Row, total, fieldsBy, kind, flow, row, table}
+use Rattle.format.specs.Insn.{lead, firstWidth, secondWidth, opcode, operands, rowAt, fieldsAt, operandsAt, next, lastOf, jump, target}
 use Rattle.format.specs.Pattern.{lands}
 use Rattle.format.specs.Exam.{readable, hasTarget}
 use Rattle.runs.specs.Stack.{Jumps}
 use Rattle.format.proofs.Table.{both}
 use Rattle.runs.proofs.Begins.{reach-inside}
 use Rattle.format.proofs.Table.{by-test}
+use Rattle.runs.proofs.Next.{next-at}
 
 -- a jump has kind S or BS: one test of the table
 jumpKind : Kind → Bool
@@ -39,27 +41,28 @@ pub if-so : (a b : Bool) → T (not a || b) → T a → T b
 if-so true b t u = t
 if-so false b t u = absurd u
 
-last-of : (k : Kind) (c : List ℕ) (o : ℕ) → T (jumpKind k) → lastOf (operands (fields k) c (o + 1)) ≡ u16At c (o + suc (width k) - 2)
+-- its last operand, whose last byte is the instruction's; n: where the operands begin
+last-of : (k : Kind) (x y : ℕ) (c : List ℕ) (n : ℕ) → T (jumpKind k) → lastOf (operands (fieldsBy x y k) c n) ≡ u16At c (n + total (fieldsBy x y k) - 2)
 unfolding jumpKind operands lastOf
-last-of Z c o t = absurd t
-last-of B c o t = absurd t
-last-of BB c o t = absurd t
-last-of S c o t = ap (u16At c) (omega arith)
-last-of BBB c o t = absurd t
-last-of BS c o t = ap (u16At c) (omega arith)
-last-of W c o t = absurd t
-last-of BSS c o t = absurd t
+last-of Z x y c n t = absurd t
+last-of B x y c n t = absurd t
+last-of BB x y c n t = absurd t
+last-of S x y c n t = ap (u16At c) (omega arith)
+last-of BBB x y c n t = absurd t
+last-of BS x y c n t = ap (u16At c) (omega arith)
+last-of W x y c n t = absurd t
+last-of BSS x y c n t = absurd t
 
-jump-width : (k : Kind) → T (jumpKind k) → 2 ≤ width k
+jump-width : (k : Kind) (x y : ℕ) → T (jumpKind k) → 2 ≤ total (fieldsBy x y k)
 unfolding jumpKind
-jump-width Z t = absurd t
-jump-width B t = absurd t
-jump-width BB t = absurd t
-jump-width S t = omega arith
-jump-width BBB t = absurd t
-jump-width BS t = omega arith
-jump-width W t = absurd t
-jump-width BSS t = absurd t
+jump-width Z x y t = absurd t
+jump-width B x y t = absurd t
+jump-width BB x y t = absurd t
+jump-width S x y t = omega arith
+jump-width BBB x y t = absurd t
+jump-width BS x y t = omega arith
+jump-width W x y t = absurd t
+jump-width BSS x y t = absurd t
 
 module _ (c : List ℕ) (o : ℕ) (j : T (hasTarget (flow (rowAt c o)))) where
   is-jump : T (jumpKind (kind (rowAt c o)))
@@ -67,12 +70,13 @@ module _ (c : List ℕ) (o : ℕ) (j : T (hasTarget (flow (rowAt c o)))) where
   is-jump = if-so (hasTarget (flow (rowAt c o))) (jumpKind (kind (rowAt c o))) (jump-all (opcode c o)) j
 
   pub jump-wide : o + 3 ≤ next c o
-  unfolding opcode rest
-  jump-wide = omega (arith, jump-width (kind (rowAt c o)) is-jump)
+  jump-wide = omega (arith, next-at c o, jump-width (kind (rowAt c o)) (firstWidth (byte c o)) (secondWidth (byte c o)) is-jump)
 
   pub operand : lastOf (operandsAt c o) ≡ u16At c (next c o - 2)
-  unfolding opcode rest
-  operand = last-of (kind (rowAt c o)) c o is-jump
+  operand =
+      let b = byte c o in
+      let e : o + lead b + 1 + total (fieldsAt c o) - 2 ≡ next c o - 2 = omega (arith, next-at c o) in
+      last-of (kind (rowAt c o)) (firstWidth b) (secondWidth b) c (o + lead b + 1) is-jump ∙ ap (u16At c) e
 
   pub target-low : (s : ℕ) → s ≡ u16At c (next c o - 2) → s < 32768 → next c o + s ≡ target c o
   unfolding target jump
@@ -104,22 +108,3 @@ pub record Room (c : List ℕ) (o : ℕ) : Type 0 where
 
 pub room : {c : List ℕ} {o : ℕ} → Jumps c o → Room c o
 room {c} {o} j = record { inside = reach-inside c 0 o (j .starts); wide = jump-wide c o (j .jump); whole = readable-whole c o (j .reads) }
-
--- The code's own numbers: w the width that it looked up, x and y the bytes that it read.
-module _ {c : List ℕ} {o : ℕ} (j : Jumps c o) (w x y : ℕ) (ew : w ≡ width (kind (row (byte c o))))
-    (ex : x ≡ byte c (o + (1 + w) - 2)) (ey : y ≡ byte c (o + (1 + w) - 2 + 1)) where
-  code-next : o + (1 + w) ≡ next c o
-  unfolding rest
-  code-next = omega arith
-
-  code-operand : x * 256 + y ≡ u16At c (next c o - 2)
-  code-operand = let e = code-next in rw (← e) (omega arith)
-
-  pub code-low : x * 256 + y < 32768 → o + (1 + w) + (x * 256 + y) ≡ target c o
-  code-low h = omega (arith, code-next, target-low c o (j .jump) (x * 256 + y) code-operand h)
-
-  pub code-high : 32768 ≤ x * 256 + y → o + (1 + w) + (x * 256 + y) - 65536 ≡ target c o
-  code-high h = omega (arith, code-next, target-high c o (j .jump) (x * 256 + y) code-operand h)
-
-  pub code-room : 32768 ≤ x * 256 + y → 65536 ≤ o + (1 + w) + (x * 256 + y)
-  code-room h = omega (arith, code-next, not-before c o (j .jump) (x * 256 + y) code-operand h (j .goes))

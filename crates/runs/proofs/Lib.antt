@@ -9,6 +9,7 @@ pub mod Exact
 pub mod Safe
 pub mod Refusal
 pub mod Loops
+pub mod Next
 pub mod Jumps
 pub mod Choices
 pub mod Frames

@@ -1,4 +1,4 @@
--- Operands that have a role, by the bytes behind the opcode: what 17 tests there, and the child that they number.
+-- Operands that have a role, by their places behind the opcode: what 17 tests there, and the child that they number.
 -- Assumes nothing.
 use Prim.Native.Nat.{ℕ, zero, suc, _+_, _≤_, _<_, suc-le-suc}
 use native.Mathlib.Omega.{arith}
@@ -11,13 +11,14 @@ use lib.Dec.{T, eqb, eqb→eq}
 use lib.Ieee.Bits.{is-false}
 use lib.ListN.{length, getD}
 use Rattle.format.specs.Bytes.{byte}
-use Rattle.format.specs.Insn.{Kind, Z, B, BB, S, BBB, BS, W, BSS, Role, reg, pool, sym as symbol, child, plain, Row, fields, width, kind, roles, table, row}
-use Rattle.format.specs.Insn.{operands, opcode, rowAt, operandsAt}
+use Rattle.format.specs.Insn.{Kind, Z, B, BB, S, BBB, BS, W, BSS, Role, reg, pool, sym as symbol, child, plain, Row, fieldsBy, fields, width, kind, roles, table, row}
+use Rattle.format.specs.Insn.{prefix, widensFirst, widensSecond, firstWidth, secondWidth, operand, operands, opcode, rowAt, fieldsAt, operandsAt}
 use Rattle.format.specs.Pattern.{Record}
 use Rattle.format.specs.Exam.{below, allBelow, operandsBelow}
 use Rattle.format.specs.Run.{isChild, childOperand}
-use Rattle.format.proofs.Answers.{false-true}
+use Rattle.runs.specs.Places.{firstPlace, secondPlace, thirdPlace}
 use Rattle.format.proofs.Table.{both, by-test, roles-length}
+use Rattle.format.proofs.Prefix.{no-first, no-second}
 
 unfoldable pub numbers : Role → Bool
 numbers reg = true
@@ -73,13 +74,16 @@ or-case : (a b : Bool) → T (a || b) → T a ⊎ T b
 or-case true b t = inl tt
 or-case false b t = inr t
 
--- an operand that has a role is the first, second or third byte behind the opcode: one test of the table
-bytes-test : Row → Bool
-bytes-test r = agree (roles r) (fields (kind r)) (1 ∷ 1 ∷ 1 ∷ [])
+-- an operand that has a role is the first, of x bytes, the second, of y, or the third, of one: one test of the table for each x and y
+widths-test : ℕ → ℕ → Row → Bool
+widths-test x y r = agree (roles r) (fieldsBy x y (kind r)) (x ∷ y ∷ 1 ∷ [])
 
-bytes-all : (b : ℕ) → T (bytes-test (row b))
-unfolding bytes-test agree noneNumber numbers table row
-bytes-all b = by-test bytes-test tt b
+widths-all : (u v : Bool) (b : ℕ) → T (widths-test (cond u 2 1) (cond v 2 1) (row b))
+unfolding widths-test agree noneNumber numbers table row
+widths-all true true b = by-test (widths-test 2 2) tt b
+widths-all true false b = by-test (widths-test 2 1) tt b
+widths-all false true b = by-test (widths-test 1 2) tt b
+widths-all false false b = by-test (widths-test 1 1) tt b
 
 -- What f asks of operands by their roles, one behind the other. It asks nothing of a plain one.
 module _ {A : Type 0} (f : Role → ℕ → A → A) (z : A) (skip : (v : ℕ) (a : A) → f plain v a ≡ a) where
@@ -115,16 +119,37 @@ module _ {A : Type 0} (f : Role → ℕ → A → A) (z : A) (skip : (v : ℕ) (
   asked-three (x ∷ y ∷ q ∷ []) u v w = refl
   asked-three (x ∷ y ∷ q ∷ p ∷ xs) u v w = refl
 
-  asked-bytes : (c : List ℕ) (o : ℕ)
+  asked-places : (c : List ℕ) (o : ℕ)
+      → asked (roles (rowAt c o)) (operandsAt c o)
+      ≡ f (roleIn c o 0) (operand (firstWidth (byte c o)) c (firstPlace c o))
+      (f (roleIn c o 1) (operand (secondWidth (byte c o)) c (secondPlace c o)) (f (roleIn c o 2) (byte c (thirdPlace c o)) z))
+  unfolding widths-test operands
+  asked-places c o =
+      let b = byte c o in
+      let xs = roles (rowAt c o) in
+      let x = firstWidth b in
+      let y = secondWidth b in
+      asked-agree xs (fieldsAt c o) (x ∷ y ∷ 1 ∷ []) c (firstPlace c o) (widths-all (widensFirst b) (widensSecond b) (opcode c o))
+      ∙ asked-three xs (operand x c (firstPlace c o)) (operand y c (secondPlace c o)) (byte c (thirdPlace c o))
+
+  -- behind a prefix
+  asked-behind : (c : List ℕ) (o : ℕ) → prefix (byte c o) ≡ true
+      → let x = firstWidth (byte c o) in let y = secondWidth (byte c o) in
+      asked (roles (rowAt c o)) (operandsAt c o)
+      ≡ f (roleIn c o 0) (operand x c (o + 2)) (f (roleIn c o 1) (operand y c (o + 2 + x)) (f (roleIn c o 2) (byte c (o + 2 + x + y)) z))
+  asked-behind c o e =
+      let two : firstPlace c o ≡ o + 2 = rw e (omega arith) in
+      asked-places c o ∙ rw two
+
+  -- and without one: the three bytes behind the opcode
+  asked-bytes : (c : List ℕ) (o : ℕ) → prefix (byte c o) ≡ false
       → asked (roles (rowAt c o)) (operandsAt c o)
       ≡ f (roleIn c o 0) (byte c (o + 1)) (f (roleIn c o 1) (byte c (o + 2)) (f (roleIn c o 2) (byte c (o + 3)) z))
-  unfolding bytes-test operands
-  asked-bytes c o =
-      let xs = roles (rowAt c o) in
+  asked-bytes c o e =
+      let one : firstPlace c o ≡ o + 1 = rw e (omega arith) in
       let two : o + 1 + 1 ≡ o + 2 = omega arith in
       let three : o + 2 + 1 ≡ o + 3 = omega arith in
-      asked-agree xs (fields (kind (rowAt c o))) (1 ∷ 1 ∷ 1 ∷ []) c (o + 1) (bytes-all (opcode c o))
-      ∙ rw (two, three) (asked-three xs (byte c (o + 1)) (byte c (o + 2)) (byte c (o + 3)))
+      asked-places c o ∙ rw (one, no-first (byte c o) e, no-second (byte c o) e, two, three)
 
 -- 17
 module _ (r : Record) where
@@ -141,14 +166,24 @@ module _ (r : Record) where
   below-asked (x ∷ xs) [] = refl
   below-asked (x ∷ xs) (v ∷ vs) = ap (λ (a : Bool). below r x v && a) (below-asked xs vs)
 
-  pub below-bytes : (o : ℕ)
-      → operandsBelow r o
-      ≡ (below r (roleIn (r .code) o 0) (byte (r .code) (o + 1))
-      && (below r (roleIn (r .code) o 1) (byte (r .code) (o + 2)) && (below r (roleIn (r .code) o 2) (byte (r .code) (o + 3)) && true)))
+  pub below-behind : (o : ℕ) → prefix (byte (r .code) o) ≡ true
+      → let c = r .code in let x = firstWidth (byte c o) in let y = secondWidth (byte c o) in
+      operandsBelow r o
+      ≡ (below r (roleIn c o 0) (operand x c (o + 2))
+      && (below r (roleIn c o 1) (operand y c (o + 2 + x)) && (below r (roleIn c o 2) (byte c (o + 2 + x + y)) && true)))
   unfolding operandsBelow andBelow
-  below-bytes o =
+  below-behind o e =
       let c = r .code in
-      below-asked (roles (rowAt c o)) (operandsAt c o) ∙ asked-bytes andBelow true plain-below c o
+      below-asked (roles (rowAt c o)) (operandsAt c o) ∙ asked-behind andBelow true plain-below c o e
+
+  pub below-bytes : (o : ℕ) → prefix (byte (r .code) o) ≡ false
+      → let c = r .code in
+      operandsBelow r o
+      ≡ (below r (roleIn c o 0) (byte c (o + 1)) && (below r (roleIn c o 1) (byte c (o + 2)) && (below r (roleIn c o 2) (byte c (o + 3)) && true)))
+  unfolding operandsBelow andBelow
+  below-bytes o e =
+      let c = r .code in
+      below-asked (roles (rowAt c o)) (operandsAt c o) ∙ asked-bytes andBelow true plain-below c o e
 
 -- the child that an operand v of a role numbers, or what others do
 abbrev pub childOr : Role → ℕ → Option ℕ → Option ℕ
@@ -160,14 +195,6 @@ child-asked [] vs = refl
 child-asked (x ∷ xs) [] = refl
 child-asked (x ∷ xs) (v ∷ vs) = ap (childOr x v) (child-asked xs vs)
 
-pub child-numbers : (x : Role) → isChild x ≡ true → T (numbers x)
-unfolding numbers
-child-numbers reg e = tt
-child-numbers pool e = tt
-child-numbers symbol e = tt
-child-numbers child e = tt
-child-numbers plain e = absurd (false-true e)
-
 -- a first operand numbers no child: one test of the table
 first-test : Row → Bool
 first-test r = not (isChild (getD (roles r) 0 plain))
@@ -176,10 +203,11 @@ first-all : (b : ℕ) → T (first-test (row b))
 unfolding first-test table row
 first-all b = by-test first-test tt b
 
-pub child-bytes : (c : List ℕ) (o : ℕ)
-    → childOperand (roles (rowAt c o)) (operandsAt c o) ≡ childOr (roleIn c o 1) (byte c (o + 2)) (childOr (roleIn c o 2) (byte c (o + 3)) none)
+pub child-places : (c : List ℕ) (o : ℕ)
+    → childOperand (roles (rowAt c o)) (operandsAt c o)
+    ≡ childOr (roleIn c o 1) (operand (secondWidth (byte c o)) c (secondPlace c o)) (childOr (roleIn c o 2) (byte c (thirdPlace c o)) none)
 unfolding first-test
-child-bytes c o =
+child-places c o =
     child-asked (roles (rowAt c o)) (operandsAt c o)
-    ∙ asked-bytes childOr none (λ v a. refl) c o
+    ∙ asked-places childOr none (λ v a. refl) c o
     ∙ rw (is-false (isChild (roleIn c o 0)) (first-all (opcode c o)))

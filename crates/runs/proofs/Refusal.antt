@@ -1,11 +1,11 @@
--- The examination is exact: it answers 0 exactly when none of 15 to 20 is met, and a number that it answers is that of a condition that is met.
+-- The examination is exact: it answers 0 exactly when none of 15 to 20 and 25 is met, and a number that it answers is that of a condition that is met.
 -- Assumes nothing.
 use Prim.Native.Nat.{ℕ, zero, suc, _+_, _<_, suc-le-suc}
 use native.Mathlib.Nat.{le-of-suc-le-suc, zero-add}
 use native.Mathlib.Omega.{arith}
 use mathlib.Core.Path.{_≡_, refl, sym, subst}
 use mathlib.Core.Logic.{_⊎_, inl, inr, _↔_}
-use mathlib.Core.Bool.{Bool, true, false, _&&_, not}
+use mathlib.Core.Bool.{Bool, true, false, _&&_, not, cond}
 use mathlib.Core.List.{List, [], _∷_}
 use lib.Dec.{T, T-not, ltb, leb, nltb→le, nleb→lt}
 use lib.ListN.{length, getD}
@@ -14,9 +14,9 @@ use Rattle.format.specs.Insn.{Flow, on, ends, jumps, may, plain, roles, flow, r
 use Rattle.format.specs.Line.{entry, rising}
 use Rattle.format.specs.Tree.{Whole, whole}
 use Rattle.format.specs.Pattern.{Record, Pattern, ilen, recAt, blank, begins, lands, rlens}
-use Rattle.format.specs.Exam.{Below, leads, hasNext, hasTarget, readable, operandsBelow, follows, Bad16, Bad17, Bad18, Bad19, Bad20, Some, Meets}
+use Rattle.format.specs.Exam.{Below, leads, hasNext, hasTarget, stray, readable, operandsBelow, follows, Bad16, Bad17, Bad18, Bad19, Bad20, Bad25, Some}
 use Rattle.format.specs.Bytes.{refuse, first}
-use Rattle.format.specs.Exam.{meets15, meets16, meets17, meets18, meets19, meets20, Passes, firstAt, at16, at1718, exam16, exam1718}
+use Rattle.format.specs.Exam.{Meets, meets15, meets16, meets17, meets18, meets19, meets20, meets25, Passes, firstAt, at16, at1718, exam16, exam1718}
 use Rattle.format.specs.Exam.{exam19, exam20, examineRecord, examineAll, examinePattern}
 use Rattle.runs.proofs.Roles.{all-below, args-fit, Above, some-above}
 use Rattle.format.proofs.Table.{both}
@@ -81,6 +81,9 @@ no-meet F G n (meets19 s) =
 no-meet F G n (meets20 s) =
     let b = s .holds in
     omega (arith, b .falls, mono (recAt F (s .rec) .lines) (G .each-rec (s .rec) (s .inside) .rise) (b .i) (suc (b .i)) (omega arith) (b .given))
+no-meet F G n (meets25 s) =
+    let b = s .holds in
+    T-not (stray (recAt F (s .rec) .code) (b .at)) (G .each-rec (s .rec) (s .inside) .paired (b .at) (b .starts)) (b .alone)
 
 pub pass-sound : (F : Pattern) → examinePattern F ≡ 0 → Passes F
 pass-sound F e n = no-meet F (good-file F e) n
@@ -93,6 +96,7 @@ data Bad (r : Record) : ℕ → Type 0 where
   bad18 : Bad18 r → Bad r 18
   bad19 : Bad19 r → Bad r 19
   bad20 : Bad20 r → Bad r 20
+  bad25 : Bad25 r → Bad r 25
 
 -- a map that does not rise falls somewhere
 falls-at : (m : List LineRow) → T (not (rising m)) → (i : ℕ) × (suc i < length m) × (entry m (suc i) .pos < entry m i .pos)
@@ -115,14 +119,19 @@ module _ (r : Record) (n : ℕ) where
   unfolding exam16
   hit16 e = go (first-hit (refuse 16 (ltb 0 (ilen r))) _ n e)
     where
+      which : (o : ℕ) → T (begins (r .code) o) → (s : Bool) → stray (r .code) o ≡ s → cond s 25 (refuse 16 (readable (r .code) o)) ≡ suc n → Bad r (suc n)
+      which o t true q e = same e (bad25 (record { at = o; starts = t; alone = subst T (sym q) tt }))
+      which o t false q e =
+          let h = refuse-hit 16 n (readable (r .code) o) e in
+          same (h .0) (bad16 (inr (record { at = o; starts = t; paired = subst (λ (b : Bool). T (not b)) (sym q) tt; fails = h .1 })))
+
       go : (refuse 16 (ltb 0 (ilen r)) ≡ suc n) ⊎ (firstAt (at16 (r .code)) (r .code) 0 0 ≡ suc n) → Bad r (suc n)
       go (inl e) =
           let h = refuse-hit 16 n (ltb 0 (ilen r)) e in
           same (h .0) (bad16 (inl (omega (arith, nltb→le 0 (ilen r) (h .1)))))
       go (inr e) =
           let i = firstAt-hit (at16 (r .code)) (r .code) 0 0 n e in
-          let h = refuse-hit 16 n (readable (r .code) (0 + i .at)) (i .gives) in
-          same (h .0) (bad16 (inr (record { at = i .at; starts = i .starts; fails = rw zero-add at (h .1) })))
+          which (i .at) (i .starts) (stray (r .code) (i .at)) refl (rw zero-add at (i .gives))
 
   hit1718 : exam1718 r ≡ suc n → Bad r (suc n)
   unfolding exam1718
@@ -180,6 +189,7 @@ some-meets F i n h (bad17 b) = meets17 (record { rec = i; inside = h; holds = b 
 some-meets F i n h (bad18 b) = meets18 (record { rec = i; inside = h; holds = b })
 some-meets F i n h (bad19 b) = meets19 (record { rec = i; inside = h; holds = b })
 some-meets F i n h (bad20 b) = meets20 (record { rec = i; inside = h; holds = b })
+some-meets F i n h (bad25 b) = meets25 (record { rec = i; inside = h; holds = b })
 
 pub refusal-met : (F : Pattern) (n : ℕ) → examinePattern F ≡ suc n → Meets F (suc n)
 unfolding examinePattern

@@ -8,16 +8,19 @@ use mathlib.Core.Bool.{Bool, true, false, _&&_, not}
 use mathlib.Core.List.{List, [], _∷_}
 use lib.Dec.{T, ltb→lt, nltb→le}
 use lib.ListN.{length, getD}
-use Rattle.format.specs.Insn.{Role, reg, pool, sym as symbol, child, plain, fields, kind, roles, opcode, rowAt, operandsAt}
+use Rattle.format.specs.Bytes.{byte}
+use Rattle.format.specs.Insn.{Role, reg, pool, sym as symbol, child, plain, kind, roles, lead, firstWidth, secondWidth, opcode, rowAt, fieldsAt, operandsAt}
 use Rattle.format.specs.Pattern.{Record}
 use Rattle.format.specs.Exam.{Below, below, allBelow}
-use Rattle.format.proofs.Table.{both}
-use Rattle.format.proofs.Table.{roles-length}
+use Rattle.format.proofs.Table.{both, roles-length}
+use Rattle.format.proofs.Prefix.{fields-length}
 use Rattle.runs.proofs.Table.{operands-length}
 
 -- an instruction has a role for each operand
 pub args-fit : (c : List ℕ) (o : ℕ) → length (roles (rowAt c o)) ≡ length (operandsAt c o)
-args-fit c o = roles-length (opcode c o) ∙ sym (operands-length (fields (kind (rowAt c o))) c (o + 1))
+args-fit c o =
+    let b = byte c o in
+    roles-length (opcode c o) ∙ sym (operands-length (fieldsAt c o) c (o + lead b + 1) ∙ fields-length (firstWidth b) (secondWidth b) (kind (rowAt c o)))
 
 below-fact : (r : Record) (x : Role) (v : ℕ) → T (below r x v) → Below r x v
 unfolding below

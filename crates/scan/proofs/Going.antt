@@ -1,33 +1,31 @@
 -- The loop that reads 17 and 18 off the flags, turn by turn.
 -- Assumes nothing.
-use Prim.Native.Nat.{ℕ, zero, suc, _+_, _-_, _%_, _≤_, _<_}
+use Prim.Native.Nat.{ℕ, zero, suc, _+_, _-_, _≤_, _<_}
 use native.Mathlib.Nat.{zero-add}
 use native.Mathlib.Omega.{arith}
-use mathlib.Core.Path.{_≡_, refl, sym, ap, subst, _∙_}
-use mathlib.Core.Bool.{Bool, true, false, _&&_, not}
+use mathlib.Core.Path.{_≡_, refl, sym, subst, _∙_}
+use mathlib.Core.Bool.{Bool, true, false}
 use mathlib.Core.List.{List}
-use lib.Dec.{T, ltb, leb}
+use lib.Dec.{T, ltb}
 use lib.ListN.{length, getD, drop}
 use Rattle.format.specs.Bytes.{byte, refuse, first}
-use Rattle.format.specs.Insn.{known, prefix, size, opcode, rest, next}
+use Rattle.format.specs.Insn.{rest, next}
 use Rattle.format.specs.Pattern.{Record, begins}
-use Rattle.format.specs.Exam.{readable, firstAt, at16, at1718, exam16, exam1718}
-use Rattle.runs.proofs.Jumps.{readable-whole}
-use Rattle.format.proofs.Answers.{first-zero, refuse-zero}
+use Rattle.format.specs.Exam.{firstAt, at16, at1718, exam16, exam1718}
+use Rattle.format.proofs.Answers.{first-zero}
 use Rattle.runs.proofs.Tests.{firstAt-zero}
-use Rattle.opcode.specs.Digits.{digitsOf}
-use Rattle.flags.specs.Flags.{bare, flagAt, judged, Flagged, landsFrom}
-use Rattle.opcode.proofs.Numbers.{size-is}
+use Rattle.flags.specs.Flags.{Entire, bare, flagAt, judged, Flagged, landsFrom}
+use Rattle.flags.proofs.Tested.{entire-whole}
 use Rattle.flags.proofs.Goes.{flags-mark, flag-wide, judged-is}
 use Rattle.scan.specs.Scan.{Marks, Coded}
 use Rattle.scan.proofs.First.{first-some}
 use Rattle.scan.proofs.Places.{Place, place-start, place-zero, place-more, place-first, place-next, firstAt-first, firstAt-next, firstAt-past}
 
-passed-16 : (c : List ℕ) → exam16 c ≡ 0 → (o : ℕ) → T (begins c o) → T (readable c o)
+passed-16 : (c : List ℕ) → exam16 c ≡ 0 → (o : ℕ) → T (begins c o) → at16 c o ≡ 0
 unfolding exam16
 passed-16 c e o t =
     let d = first-zero (refuse 16 (ltb 0 (length c))) _ e in
-    refuse-zero 15 (readable c o) (rw zero-add at (firstAt-zero (at16 c) c 0 0 (d .1) o t))
+    rw zero-add at (firstAt-zero (at16 c) c 0 0 (d .1) o t)
 
 -- 17 and 18, at the place i
 pub record Going (R : Record) (i : ℕ) : Type 0 where
@@ -42,16 +40,16 @@ module _ {R : Record} where
 
   module _ {i : ℕ} (h : i < length (R .code)) (g : Going R i) where
     module _ (b : begins (R .code) i ≡ true) where
-      turned : exam1718 R ≡ first (at1718 R i) (firstAt (at1718 R) (drop (i + 1) (R .code)) (size (byte (R .code) i) - 1) (i + 1))
-      turned = g .so ∙ firstAt-first (at1718 R) (R .code) i (g .left) (size (byte (R .code) i)) h (place-zero h (g .place) b) refl
+      turned : exam1718 R ≡ first (at1718 R i) (firstAt (at1718 R) (drop (i + 1) (R .code)) (rest (byte (R .code) i) (drop (suc i) (R .code))) (i + 1))
+      turned = g .so ∙ firstAt-first (at1718 R) (R .code) i (g .left) h (place-zero h (g .place) b)
 
       going-stop : {n : ℕ} → at1718 R i ≡ suc n → exam1718 R ≡ suc n
       going-stop e = turned ∙ rw e
 
       going-pass : at1718 R i ≡ 0 → Going R (i + 1)
       going-pass e = record {
-        left = size (byte (R .code) i) - 1;
-        place = place-first h (g .place) (size (byte (R .code) i)) (place-zero h (g .place) b) refl;
+        left = rest (byte (R .code) i) (drop (suc i) (R .code));
+        place = place-first h (g .place) (place-zero h (g .place) b);
         so = turned ∙ rw e;
       }
 
@@ -77,11 +75,6 @@ judged-high (suc (suc zero)) t h = absurd (omega arith)
 judged-high (suc (suc (suc zero))) t h = absurd (omega arith)
 judged-high (suc (suc (suc (suc v)))) t h = refl
 
-known-of : (a b d : Bool) → T (a && b && d) → (a && b) ≡ true
-known-of true true d t = refl
-known-of true false d t = absurd t
-known-of false b d t = absurd t
-
 -- by the flag
 module _ {l c flags : List ℕ} (f : Flagged l c flags) {i : ℕ} (h : i < length c) where
   begun : 0 < getD flags i 0 → begins c i ≡ true
@@ -97,17 +90,13 @@ module _ {l c flags : List ℕ} (f : Flagged l c flags) {i : ℕ} (h : i < lengt
   answer-is : begins c i ≡ true → at1718 (bare l c) i ≡ judged (getD flags i 0) (landsFrom c (next c i))
   answer-is b = judged-is (bare l c) i b ∙ rw (← flag-is b)
 
-  -- a jump: its next offset, by the digits that the code looked up
+  -- a jump
   module _ (e : exam16 c ≡ 0) (p : 0 < getD flags i 0) where
-    reads : T (readable c i)
-    reads = passed-16 c e i (subst T (sym (begun p)) tt)
-
-    pub jump-next : {d : ℕ} → d ≡ digitsOf (byte c i) → i + d % 64 ≡ next c i
-    unfolding rest readable opcode
-    jump-next q = ap (λ (n : ℕ). i + n) (size-is (byte c i) q (known-of (known (byte c i)) (not (prefix (byte c i))) (leb (next c i) (length c)) reads))
+    pub jump-entire : Entire c i
+    jump-entire = record { inside = h; none = passed-16 c e i (subst T (sym (begun p)) tt) }
 
     pub jump-inside : next c i ≤ length c
-    jump-inside = readable-whole c i reads
+    jump-inside = entire-whole jump-entire
 
     pub jump-behind : getD flags i 0 ≡ 3 → i + 3 ≤ next c i
     jump-behind q = flag-wide (bare l c) i (sym (flag-is (begun p)) ∙ q)

@@ -1,25 +1,25 @@
 -- The loop that tests 16 and sets the flags: it goes from instruction to instruction over flags that are 0.
 -- Assumes nothing.
-use Prim.Native.Nat.{ℕ, _+_, _-_, _%_, _≤_, _<_}
+use Prim.Native.Nat.{ℕ, _+_, _-_, _≤_, _<_}
 use native.Mathlib.Nat.{sub-zero, eq-or-lt-of-le}
 use native.Mathlib.Omega.{arith}
-use mathlib.Core.Path.{_≡_, refl, sym, ap, _∙_}
+use mathlib.Core.Path.{_≡_, refl, sym, _∙_}
 use mathlib.Core.Logic.{_⊎_, inl, inr}
-use mathlib.Core.Bool.{Bool, true, false, _&&_, not}
+use mathlib.Core.Bool.{Bool, true, false}
 use mathlib.Core.List.{List}
-use lib.Dec.{ltb, leb}
+use lib.Dec.{ltb}
 use lib.ListN.{length, getD, set, drop, length-set}
 use lib.Seq.{drop-cons, getD-set-same, getD-set-other}
-use borrow.Author.Tests.{ltb-true, ltb-false, lt-ltb, le-leb, lt-leb}
-use Rattle.format.specs.Bytes.{byte, refuse, first}
-use Rattle.format.specs.Insn.{known, prefix, opcode, rest, next}
+use borrow.Author.Tests.{ltb-true, ltb-false, lt-ltb}
+use Rattle.format.specs.Bytes.{first}
+use Rattle.format.specs.Insn.{next}
 use Rattle.format.specs.Pattern.{reach, begins}
-use Rattle.format.specs.Exam.{readable, firstAt, at16, exam16}
+use Rattle.format.specs.Exam.{firstAt, at16, exam16}
 use Rattle.runs.proofs.Loops.{firstAt-turn, firstAt-end, reach-turn, reach-over}
-use Rattle.opcode.specs.Digits.{instruction, digitsOf}
-use Rattle.flags.specs.Flags.{bare, Looked, flagAt, toldAt}
-use Rattle.opcode.proofs.Numbers.{size-is, no-size, some-size}
+use Rattle.flags.specs.Flags.{toldAt}
+use Rattle.flags.proofs.Tested.{Passed, entire-whole}
 use Rattle.scan.specs.Scan.{Cleared, Marks}
+use Rattle.scan.proofs.First.{first-some}
 
 -- the loop that clears, at the flag i
 module _ {before : List ℕ} where
@@ -35,19 +35,6 @@ module _ {before : List ℕ} where
 
   pub cleared-end : {flags : List ℕ} {n i : ℕ} → n ≤ i → Cleared before i flags → Cleared before n flags
   cleared-end h g = record { long = g .long; none = λ o l. g .none o (omega arith) }
-
-and-false : (a d : Bool) → d ≡ false → (a && d) ≡ false
-and-false true d e = e
-and-false false d e = refl
-
-and-assoc : (a b d : Bool) → (a && b && d) ≡ ((a && b) && d)
-and-assoc true b d = refl
-and-assoc false b d = refl
-
--- 16 at an instruction
-readable-is : (c : List ℕ) (o : ℕ) → readable c o ≡ (instruction (byte c o) && leb (next c o) (length c))
-unfolding readable opcode
-readable-is c o = and-assoc (known (byte c o)) (not (prefix (byte c o))) (leb (next c o) (length c))
 
 pub record Marking (l c flags : List ℕ) (i : ℕ) : Type 0 where
   pub room : length c ≤ length flags
@@ -73,55 +60,44 @@ module _ {l c : List ℕ} where
   }
 
   module _ {flags : List ℕ} {i : ℕ} (h : i < length c) (m : Marking l c flags i) where
-    turned : exam16 c ≡ first (refuse 16 (readable c i)) (firstAt (at16 c) (drop (next c i) c) 0 (next c i))
+    turned : exam16 c ≡ first (at16 c i) (firstAt (at16 c) (drop (next c i) c) 0 (next c i))
     turned = m .so ∙ firstAt-turn (at16 c) c i h
 
-    refused : readable c i ≡ false → Marks l c flags 16
-    refused z = record { answers = sym (turned ∙ rw z); flagged = λ y. absurd (omega arith) }
+    -- the instruction at i meets 16 or 25
+    pub marks-met : {n : ℕ} → at16 c i ≡ n → (n ≡ 0 → ⊥) → Marks l c flags n
+    marks-met {n} e z = record { answers = rw (turned, e) (first-some n _ z); flagged = λ y. absurd (z y) }
 
-    module _ (d : ℕ) (e : d ≡ digitsOf (byte c i)) where
-      pub marks-unknown : d % 64 ≡ 0 → Marks l c flags 16
-      marks-unknown z = refused (readable-is c i ∙ rw (← no-size (byte c i) e z))
+    -- it meets neither: n is its size, f its flag
+    module _ {n f : ℕ} (p : Passed l c i n f) where
+      pub inside : i + n ≤ length c
+      inside = omega (arith, p .next-is, entire-whole (record { inside = h; none = p .none }))
 
-      module _ (s : d % 64 ≡ 0 → ⊥) where
-        next-is : i + d % 64 ≡ next c i
-        unfolding rest
-        next-is = ap (λ (n : ℕ). i + n) (size-is (byte c i) e (some-size (byte c i) e s))
+      here : begins c i ≡ true
+      unfolding reach
+      here = let z : i - i ≡ 0 = omega arith in m .ahead i (omega arith) ∙ rw (z, drop-cons c i 0 h)
 
-        pub marks-cut : length c - i < d % 64 → Marks l c flags 16
-        marks-cut k = refused (readable-is c i ∙ and-false (instruction (byte c i)) (leb (next c i) (length c)) (lt-leb (next c i) (length c) (omega (arith, next-is))))
+      -- the flags below the next offset
+      stored : (o : ℕ) → o < next c i → getD (set flags i f) o 0 ≡ toldAt l c o
+      stored o g = go (ltb o i) refl
+        where
+          at : (i ≡ o) ⊎ (i < o) → getD (set flags i f) o 0 ≡ toldAt l c o
+          at (inl z) = rw (← z, getD-set-same flags i f 0 (omega (arith, m .room)), here) (p .flag-is)
+          at (inr z) =
+              rw (getD-set-other flags i o f 0 (λ y. omega arith), m .ahead o (omega arith), reach-over c i o h z g)
+              (m .clear o (omega arith) (omega (arith, p .next-is, inside)))
 
-        module _ (k : d % 64 ≤ length c - i) where
-          pub marking-looked : Looked c i d
-          marking-looked = record { digits = e; read = some-size (byte c i) e s; whole = omega (arith, next-is) }
+          go : (x : Bool) → ltb o i ≡ x → getD (set flags i f) o 0 ≡ toldAt l c o
+          go true z = let y = ltb-true o i z in rw (getD-set-other flags i o f 0 (λ x. omega arith)) (m .upto o y)
+          go false z = at (eq-or-lt-of-le {n = i} {m = o} (ltb-false o i z))
 
-          here : begins c i ≡ true
-          unfolding reach
-          here = let z : i - i ≡ 0 = omega arith in m .ahead i (omega arith) ∙ rw (z, drop-cons c i 0 h)
-
-          module _ (v : ℕ) (q : v ≡ flagAt (bare l c) i) where
-            -- the flags below the next offset
-            stored : (o : ℕ) → o < next c i → getD (set flags i v) o 0 ≡ toldAt l c o
-            stored o g = go (ltb o i) refl
-              where
-                at : (i ≡ o) ⊎ (i < o) → getD (set flags i v) o 0 ≡ toldAt l c o
-                at (inl z) = rw (← z, getD-set-same flags i v 0 (omega (arith, m .room)), here) q
-                at (inr z) =
-                    rw (getD-set-other flags i o v 0 (λ y. omega arith), m .ahead o (omega arith), reach-over c i o h z g)
-                    (m .clear o (omega arith) (omega (arith, next-is)))
-
-                go : (x : Bool) → ltb o i ≡ x → getD (set flags i v) o 0 ≡ toldAt l c o
-                go true z = let y = ltb-true o i z in rw (getD-set-other flags i o v 0 (λ x. omega arith)) (m .upto o y)
-                go false z = at (eq-or-lt-of-le {n = i} {m = o} (ltb-false o i z))
-
-            pub marking-turn : Marking l c (set flags i v) (i + d % 64)
-            marking-turn = rw next-is record {
-              room = simp length-set (m .room);
-              ahead = λ o g. m .ahead o (omega (arith, next-is)) ∙ reach-turn c i o h (omega (arith, next-is)) g;
-              upto = stored;
-              clear = λ o g z. rw (getD-set-other flags i o v 0 (λ y. omega (arith, next-is))) (m .clear o (omega (arith, next-is)) z);
-              so = turned ∙ rw (readable-is c i, some-size (byte c i) e s, le-leb (next c i) (length c) (omega (arith, next-is)));
-            }
+      pub marking-turn : Marking l c (set flags i f) (i + n)
+      marking-turn = rw (p .next-is) record {
+        room = simp length-set (m .room);
+        ahead = λ o g. m .ahead o (omega (arith, p .next-is)) ∙ reach-turn c i o h (omega (arith, p .next-is)) g;
+        upto = stored;
+        clear = λ o g z. rw (getD-set-other flags i o f 0 (λ y. omega (arith, p .next-is))) (m .clear o (omega (arith, p .next-is)) z);
+        so = turned ∙ rw (p .none);
+      }
 
   pub marking-end : {flags : List ℕ} {i : ℕ} → length c ≤ i → Marking l c flags i → Marks l c flags 0
   marking-end {flags} {i} h m = record {

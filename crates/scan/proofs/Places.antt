@@ -10,22 +10,17 @@ use mathlib.Core.List.{List, _∷_}
 use lib.ListN.{length, getD, drop, drop-of-length-le}
 use lib.Seq.{drop-cons}
 use Rattle.format.specs.Bytes.{byte, first}
-use Rattle.format.specs.Insn.{width, kind, row, size, rest}
+use Rattle.format.specs.Insn.{rest}
 use Rattle.format.specs.Pattern.{reach, begins}
 use Rattle.format.specs.Exam.{firstAt}
 use Rattle.format.proofs.Answers.{false-true}
-use Rattle.format.proofs.Table.{width-small}
 
 pub record Place (c : List ℕ) (i left : ℕ) : Type 0 where
-  pub small : left ≤ 5
   pub ahead : (j : ℕ) → begins c (i + j) ≡ reach (drop i c) left j
-
-less : (n w : ℕ) → n ≡ suc w → w ≡ n - 1
-less n w e = omega arith
 
 module _ {c : List ℕ} where
   pub place-start : Place c 0 0
-  place-start = record { small = omega arith; ahead = λ j. rw zero-add }
+  place-start = record { ahead = λ j. rw zero-add }
 
   module _ {i left : ℕ} (h : i < length c) (p : Place c i left) where
     pub place-here : begins c i ≡ reach (drop i c) left 0
@@ -34,24 +29,21 @@ module _ {c : List ℕ} where
     after : (j : ℕ) → begins c (i + 1 + j) ≡ reach (drop i c) left (suc j)
     after j = let e : i + 1 + j ≡ i + suc j = omega arith in rw e (p .ahead (suc j))
 
-    -- an instruction begins at i: n is its size
+    -- an instruction begins at i
     pub place-begins : left ≡ 0 → begins c i ≡ true
     unfolding reach
     place-begins e = rw (place-here, drop-cons c i 0 h, e)
 
-    pub place-first : (n : ℕ) → left ≡ 0 → n ≡ size (byte c i) → Place c (i + 1) (n - 1)
-    unfolding reach rest
-    place-first n e q =
-        let d = drop-cons c i 0 h in
-        let w = less n (width (kind (row (byte c i)))) q in
-        record { small = omega (arith, width-small (kind (row (byte c i)))); ahead = λ j. after j ∙ rw (d, e, ← w, add-one) }
+    pub place-first : left ≡ 0 → Place c (i + 1) (rest (byte c i) (drop (suc i) c))
+    unfolding reach
+    place-first e = record { ahead = λ j. after j ∙ rw (drop-cons c i 0 h, e, add-one) }
 
     -- i is inside an instruction
     pub place-next : (left ≡ 0 → ⊥) → Place c (i + 1) (left - 1)
     unfolding reach
     place-next z =
         let e : left ≡ suc (left - 1) = omega arith in
-        record { small = omega (arith, p .small); ahead = λ j. after j ∙ rw (drop-cons c i 0 h, e, add-one) (inner (left - 1) (getD c i 0) j) }
+        record { ahead = λ j. after j ∙ rw (drop-cons c i 0 h, e, add-one) (inner (left - 1) (getD c i 0) j) }
       where
         inner : (l b j : ℕ) → reach (b ∷ drop (suc i) c) (suc l) (suc j) ≡ reach (drop (suc i) c) (suc l - 1) j
         inner l b j = let k : suc l - 1 ≡ l = omega arith in rw k
@@ -70,13 +62,10 @@ module _ {c : List ℕ} where
 
 -- the first refusal from a place on
 module _ (f : ℕ → ℕ) (c : List ℕ) (i left : ℕ) where
-  pub firstAt-first : (n : ℕ) → i < length c → left ≡ 0 → n ≡ size (byte c i)
-      → firstAt f (drop i c) left i ≡ first (f i) (firstAt f (drop (i + 1) c) (n - 1) (i + 1))
-  unfolding firstAt rest
-  firstAt-first n h e q =
-      let d = drop-cons c i 0 h in
-      let w = less n (width (kind (row (byte c i)))) q in
-      rw (d, e, ← w, add-one)
+  pub firstAt-first : i < length c → left ≡ 0
+      → firstAt f (drop i c) left i ≡ first (f i) (firstAt f (drop (i + 1) c) (rest (byte c i) (drop (suc i) c)) (i + 1))
+  unfolding firstAt
+  firstAt-first h e = rw (drop-cons c i 0 h, e, add-one)
 
   pub firstAt-next : i < length c → (left ≡ 0 → ⊥) → firstAt f (drop i c) left i ≡ firstAt f (drop (i + 1) c) (left - 1) (i + 1)
   unfolding firstAt

@@ -1,4 +1,4 @@
--- What conditions 16 to 18 answer over the code of a record, and what they leave in the flags.
+-- What conditions 16, 25, 17 and 18 answer over the code of a record, and what they leave in the flags.
 -- Assumes nothing.
 use Prim.Native.Nat.{ℕ, _<_}
 use mathlib.Core.Path.{_≡_}
@@ -13,12 +13,12 @@ pub record Cleared (before : List ℕ) (n : ℕ) (flags : List ℕ) : Type 0 whe
   pub long : length flags ≡ length before
   pub none : (o : ℕ) → o < n → getD flags o 0 ≡ 0
 
--- n is what 16 answers, and where that is 0 the flags are set
+-- n is what 16 and 25 answer, and where that is 0 the flags are set
 pub record Marks (l c flags : List ℕ) (n : ℕ) : Type 0 where
   pub answers : n ≡ exam16 c
   pub flagged : n ≡ 0 → Flagged l c flags
 
--- n is what 16, then 17 and 18 answer, and where that is 0 the flags say where instructions begin
+-- n is what 16 and 25, then 17 and 18 answer, and where that is 0 the flags say where instructions begin
 pub record Coded (l c flags : List ℕ) (n : ℕ) : Type 0 where
   pub answers : n ≡ first (exam16 c) (exam1718 (bare l c))
   pub marked : n ≡ 0 → Marked c flags

@@ -1,8 +1,10 @@
-// Conditions 16 to 18 over the code of a record, with a flag for each byte.
+// Conditions 16, 25, 17 and 18 over the code of a record, with a flag for each byte.
 use flags::HIGH;
 use flags::TARGETED;
 use flags::flag_at;
 use flags::lands_at;
+use flags::next_offset;
+use flags::test_behind;
 use opcode::digits;
 use opcode::parts::SIZE;
 ghost use Prim.Native.Nat.{_≤_};
@@ -22,7 +24,7 @@ fn clear(flags: &mut [u8], n: usize)
     }
 }
 
-// 16 over the whole record, and the flag of each instruction: 0 where it passes.
+// 16 and 25 over the whole record, and the flag of each instruction: 0 where it passes.
 fn exam_16(code: &[u8], flags: &mut [u8], limits: &[u32]) -> u8
     requires { ⌜ length (now code) ≤ length (now flags) ⌝ }
     requires { ⌜ Limits (now limits) ⌝ }
@@ -37,18 +39,25 @@ fn exam_16(code: &[u8], flags: &mut [u8], limits: &[u32]) -> u8
         let d = digits(code[i]);
         let n = d % SIZE;
         if n == 0 {
-            return 16;
+            let t = test_behind(code, i, limits);
+            let m = t % SIZE;
+            if m == 0 {
+                return (t / SIZE) as u8;
+            }
+            flags[i] = (t / SIZE) as u8;
+            i += m;
+        } else {
+            if code.len() - i < n {
+                return 16;
+            }
+            flags[i] = flag_at(code, i, d, limits);
+            i += n;
         }
-        if code.len() - i < n {
-            return 16;
-        }
-        flags[i] = flag_at(code, i, d, limits);
-        i += n;
     }
     0
 }
 
-// 16 over the whole record, then 17 before 18 at each instruction in turn.
+// 16 and 25 over the whole record, then 17 before 18 at each instruction in turn.
 pub fn exam_code(code: &[u8], flags: &mut [u8], limits: &[u32]) -> u8
     requires { ⌜ length (now code) ≤ length (now flags) ⌝ }
     requires { ⌜ Limits (now limits) ⌝ }
@@ -70,7 +79,7 @@ pub fn exam_code(code: &[u8], flags: &mut [u8], limits: &[u32]) -> u8
             if v > TARGETED {
                 return 18;
             }
-            if !lands_at(code, flags, i + digits(code[i]) % SIZE) {
+            if !lands_at(code, flags, next_offset(code, i)) {
                 return 18;
             }
             i += 1;

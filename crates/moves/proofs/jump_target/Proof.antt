@@ -2,13 +2,13 @@
 -- Assumes nothing.
 use native.Mathlib.Omega.{arith}
 use Rattle.runs.proofs.Jumps.{room}
-use Rattle.moves.proofs.Moves.{target-low, target-high, not-before}
+use Rattle.moves.proofs.Moves.{entire-jump, target-low, target-high, not-before}
 use borrow.Author.Needs.{needs}
 use Rattle.moves.proofs.jump_target.Statement.{statement}
 use Rattle.moves.proofs.jump_target.Tie as tie
 
 next-offset-requires : tie.Need-next-offset-requires
-next-offset-requires c κs = (room (c .before .pre) .inside, room (c .before .pre) .whole)
+next-offset-requires c κs = entire-jump (c .before .pre)
 
 sub-at : tie.Need-sub-at
 sub-at c = omega (arith, room (c .before .before .pre), c .next-offset .ensures)

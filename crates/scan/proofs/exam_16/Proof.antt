@@ -2,10 +2,13 @@
 -- Assumes nothing.
 use borrow.Author.Needs.{needs}
 use native.Mathlib.Omega.{arith}
-use Prim.Native.Nat.{_-_}
+use Prim.Native.Nat.{_-_, _/_, _<_}
 use mathlib.Core.Path.{_≡_, refl}
 use lib.ListN.{length, length-set}
-use Rattle.scan.proofs.Marks.{Marking, marks-empty, marking-start, marks-unknown, marks-cut, marking-looked, marking-turn, marking-end}
+use Rattle.format.specs.Bytes.{byte}
+use Rattle.opcode.proofs.Numbers.{no-size}
+use Rattle.flags.proofs.Tested.{tested-small, tested-met, tested-passed, alone-here, cut-here, passed-here}
+use Rattle.scan.proofs.Marks.{Marking, marks-empty, marking-start, marks-met, inside, marking-turn, marking-end}
 use Rattle.scan.proofs.exam_16.Statement.{statement}
 use Rattle.scan.proofs.exam_16.Tie as tie
 
@@ -22,42 +25,97 @@ returns c =
     marks-empty (a .limits .now) (a .code .now) (a .flags .now) (c .if1 .taken)
 
 loop-holds : tie.Need-loop-holds Inv-loop μ-loop
-loop-holds c = (refl, marking-start (c .before .before .before .before .if1 .left) (c .before .before .before .before .before .before .before .before .pre .0) (c .before .before .clear .ensures))
+loop-holds c =
+    let clear = c .before .before in
+    let if1 = clear .before .before in
+    (refl, marking-start (if1 .if1 .left) (if1 .before .before .before .before .pre .0) (clear .clear .ensures))
+
+test-behind-requires : tie.Need-test-behind-requires Inv-loop μ-loop
+test-behind-requires c κs =
+    let digits = c .before in
+    let turn = digits .before .before in
+    let start = turn .before .before .before .before .before .before .before .before .before .before in
+    (start .pre .1, (turn .loop-test .taken, no-size (byte (start .args .code .now) _) (digits .digits .ensures) (c .if2 .taken)))
+
+-- what the tests behind a prefix answer is a byte
+few : (c : tie.After-test-behind Inv-loop μ-loop) → c .test-behind .result / 64 < 256
+few c =
+    let a = c .before .before .before .before .before .before .before .before .before .before .before .before .before .before .args in
+    tested-small (a .limits .now) (a .code .now) _ (c .test-behind .ensures)
 
 same-length : tie.Need-same-length Inv-loop μ-loop
-same-length c = omega (arith, c .before .before .before .before .loop .inv .0, c .before .before .before .before .before .before .before .clear .ensures .long)
+same-length c =
+    let loop = c .before .before .before .before .before .before in
+    omega (arith, loop .loop .inv .0, loop .before .before .before .clear .ensures .long)
 
 returns-2 : tie.Need-returns-2 Inv-loop μ-loop
-returns-2 c = marks-unknown (c .before .before .before .loop-test .taken) (c .before .before .before .before .loop .inv .1) _ (c .before .digits .ensures) (c .if2 .taken)
-
-same-length-2 : tie.Need-same-length-2 Inv-loop μ-loop
-same-length-2 c = omega (arith, c .before .before .before .before .before .loop .inv .0, c .before .before .before .before .before .before .before .before .clear .ensures .long)
-
-returns-3 : tie.Need-returns-3 Inv-loop μ-loop
-returns-3 c =
-    let c2 = c .before .before in
-    let c4 = c2 .before .before in
-    let c5 = c4 .before in
-    marks-cut (c4 .loop-test .taken) (c5 .loop .inv .1) _ (c2 .digits .ensures) (c .before .if2 .left) (c .if3 .taken)
-
-flag-at-requires : tie.Need-flag-at-requires Inv-loop μ-loop
-flag-at-requires c κs =
-    let c2 = c .before .before in
-    let c4 = c2 .before .before in
-    let c5 = c4 .before in
-    let c14 = c5 .before .before .before .before .before .before .before .before .before in
-    (c14 .pre .1, marking-looked (c4 .loop-test .taken) (c5 .loop .inv .1) _ (c2 .digits .ensures) (c .before .if2 .left) (c .if3 .left))
+returns-2 c =
+    let tests = c .before in
+    let turn = tests .before .before .before .before in
+    let a = turn .before .before .before .before .before .before .before .before .before .before .args in
+    let r = tested-met (a .limits .now) (a .code .now) _ (tests .test-behind .ensures) (c .if3 .taken) in
+    marks-met (turn .loop-test .taken) (turn .before .loop .inv .1) (r .0) (r .1)
 
 slice-write-flags : tie.Need-slice-write-flags Inv-loop μ-loop
 slice-write-flags c = omega (arith, c .before .before .before .before .before .before .loop .inv .1 .room)
 
+add-i : tie.Need-add-i Inv-loop μ-loop
+add-i c =
+    let tests = c .before in
+    let turn = tests .before .before .before .before in
+    let a = turn .before .before .before .before .before .before .before .before .before .before .args in
+    let p = tested-passed (a .limits .now) (a .code .now) _ (tests .test-behind .ensures) (c .if3 .left) in
+    omega (arith, inside (turn .loop-test .taken) (turn .before .loop .inv .1) p)
+
 loop-again : tie.Need-loop-again Inv-loop μ-loop
 loop-again c =
-    let c2 = c .before .before in
-    let c3 = c2 .before in
-    let c5 = c3 .before .before in
-    let c6 = c5 .before in
-    (simp length-set (c6 .loop .inv .0), marking-turn (c5 .loop-test .taken) (c6 .loop .inv .1) _ (c3 .digits .ensures) (c2 .if2 .left) (c .before .if3 .left) _ (c .flag-at .ensures))
+    let tests = c .before in
+    let turn = tests .before .before .before .before in
+    let a = turn .before .before .before .before .before .before .before .before .before .before .args in
+    let p = tested-passed (a .limits .now) (a .code .now) _ (tests .test-behind .ensures) (c .if3 .left) in
+    let inv = turn .before .loop .inv in
+    (simp length-set (inv .0), marking-turn (turn .loop-test .taken) (inv .1) p)
+
+same-length-2 : tie.Need-same-length-2 Inv-loop μ-loop
+same-length-2 c =
+    let loop = c .before .before .before .before .before in
+    omega (arith, loop .loop .inv .0, loop .before .before .before .clear .ensures .long)
+
+returns-3 : tie.Need-returns-3 Inv-loop μ-loop
+returns-3 c =
+    let if2 = c .before in
+    let digits = if2 .before in
+    let turn = digits .before .before in
+    let a = turn .before .before .before .before .before .before .before .before .before .before .args in
+    let h = turn .loop-test .taken in
+    marks-met h (turn .before .loop .inv .1) (cut-here (a .code .now) _ h (digits .digits .ensures) (if2 .if2 .left) (c .if4 .taken)) (λ z. omega arith)
+
+flag-at-requires : tie.Need-flag-at-requires Inv-loop μ-loop
+flag-at-requires c κs =
+    let if2 = c .before in
+    let digits = if2 .before in
+    let turn = digits .before .before in
+    let start = turn .before .before .before .before .before .before .before .before .before .before in
+    let code = start .args .code .now in
+    let h = turn .loop-test .taken in
+    let e = digits .digits .ensures in
+    let s = if2 .if2 .left in
+    (start .pre .1, alone-here code _ h e s (c .if4 .left))
+
+slice-write-flags-2 : tie.Need-slice-write-flags-2 Inv-loop μ-loop
+slice-write-flags-2 c = omega (arith, c .before .before .before .before .before .before .loop .inv .1 .room)
+
+loop-again-2 : tie.Need-loop-again-2 Inv-loop μ-loop
+loop-again-2 c =
+    let if4 = c .before in
+    let if2 = if4 .before in
+    let digits = if2 .before in
+    let turn = digits .before .before in
+    let a = turn .before .before .before .before .before .before .before .before .before .before .args in
+    let h = turn .loop-test .taken in
+    let p = passed-here (a .limits .now) (a .code .now) _ h (digits .digits .ensures) (if2 .if2 .left) (if4 .if4 .left) (c .flag-at .ensures) in
+    let inv = turn .before .loop .inv in
+    (simp length-set (inv .0), marking-turn h (inv .1) p)
 
 same-length-3 : tie.Need-same-length-3 Inv-loop μ-loop
 same-length-3 c = omega (arith, c .before .loop .inv .0, c .before .before .before .before .clear .ensures .long)
@@ -76,15 +134,22 @@ exam-16-spec =
     loop-holds
     (λ c. search needs)
     (λ c κs. search needs)
+    test-behind-requires
+    (λ c. record { fits = omega (arith, few (c .before)) })
     same-length
     returns-2
+    (λ c. record { fits = omega (arith, few (c .before)) })
+    slice-write-flags
+    add-i
+    (λ c. search needs)
+    loop-again
     (λ c. search needs)
     same-length-2
     returns-3
     flag-at-requires
-    slice-write-flags
+    slice-write-flags-2
     (λ c. search needs)
     (λ c. search needs)
-    loop-again
+    loop-again-2
     same-length-3
     returns-4)

@@ -8,7 +8,7 @@ use lib.ListN.{length}
 use borrow.Author.Tests.{not-true, not-false}
 use Rattle.flags.specs.Flags.{bare, landsFrom}
 use Rattle.flags.proofs.Goes.{flags-mark}
-use Rattle.scan.proofs.Going.{Going, going-start, going-skip, going-17, going-18, going-off, going-land, going-end, jump-next, jump-inside, jump-behind, passes, coded-16, coded-stop, coded-end}
+use Rattle.scan.proofs.Going.{Going, going-start, going-skip, going-17, going-18, going-off, going-land, going-end, jump-entire, jump-inside, jump-behind, passes, coded-16, coded-stop, coded-end}
 use Rattle.scan.proofs.exam_code.Statement.{statement}
 use Rattle.scan.proofs.exam_code.Tie as tie
 
@@ -51,79 +51,59 @@ returns-3 c =
     let c9 = c6 .before .before .before in
     coded-stop (c9 .exam-16 .ensures) (c6 .if1 .left) (going-18 (c9 .exam-16 .ensures .flagged (c6 .if1 .left)) (c4 .loop-test .taken) (c5 .loop .inv) (c .if4 .taken))
 
-add-lands-at : tie.Need-add-lands-at Inv-loop μ-loop
-add-lands-at c =
-    let c5 = c .before .before .before .before .before in
-    let c7 = c5 .before .before in
-    let c9 = c7 .before .before in
-    let c12 = c9 .before .before .before in
-    omega (
-      arith,
-      jump-next (c12 .exam-16 .ensures .flagged (c9 .if1 .left)) (c7 .loop-test .taken) (passes (c12 .exam-16 .ensures) (c9 .if1 .left))
-          (omega (arith, c5 .if2 .left)) (c .digits .ensures),
-      jump-inside (c12 .exam-16 .ensures .flagged (c9 .if1 .left)) (c7 .loop-test .taken)
-          (passes (c12 .exam-16 .ensures) (c9 .if1 .left)) (omega (arith, c5 .if2 .left)),
-    )
+next-offset-requires : tie.Need-next-offset-requires Inv-loop μ-loop
+next-offset-requires c κs =
+    let if2 = c .before .before .before in
+    let turn = if2 .before .before in
+    let if1 = turn .before .before in
+    let marks = if1 .before .before .before .exam-16 .ensures in
+    jump-entire (marks .flagged (if1 .if1 .left)) (turn .loop-test .taken) (passes marks (if1 .if1 .left)) (omega (arith, if2 .if2 .left))
 
 lands-at-requires : tie.Need-lands-at-requires Inv-loop μ-loop
 lands-at-requires c κs =
-    let c3 = c .before .before .before in
-    let c4 = c3 .before in
-    let c5 = c4 .before in
-    let c7 = c5 .before .before in
-    let c9 = c7 .before .before in
-    let c12 = c9 .before .before .before in (
-      flags-mark (c12 .exam-16 .ensures .flagged (c9 .if1 .left)),
-      (
-        omega (
-          arith,
-          jump-next (c12 .exam-16 .ensures .flagged (c9 .if1 .left)) (c7 .loop-test .taken) (passes (c12 .exam-16 .ensures) (c9 .if1 .left))
-              (omega (arith, c5 .if2 .left)) (c .digits .ensures),
-          jump-behind (c12 .exam-16 .ensures .flagged (c9 .if1 .left)) (c7 .loop-test .taken)
-              (passes (c12 .exam-16 .ensures) (c9 .if1 .left)) (omega (arith, c5 .if2 .left)) (omega (arith, c5 .if2 .left, c4 .if3 .left, c3 .if4 .left)),
-        ),
-        omega (
-          arith,
-          jump-next (c12 .exam-16 .ensures .flagged (c9 .if1 .left)) (c7 .loop-test .taken) (passes (c12 .exam-16 .ensures) (c9 .if1 .left))
-              (omega (arith, c5 .if2 .left)) (c .digits .ensures),
-          jump-inside (c12 .exam-16 .ensures .flagged (c9 .if1 .left)) (c7 .loop-test .taken)
-              (passes (c12 .exam-16 .ensures) (c9 .if1 .left)) (omega (arith, c5 .if2 .left)),
-        ),
-      ),
-    )
+    let if4 = c .before .before in
+    let if3 = if4 .before in
+    let if2 = if3 .before in
+    let turn = if2 .before .before in
+    let if1 = turn .before .before in
+    let marks = if1 .before .before .before .exam-16 .ensures in
+    let flagged = marks .flagged (if1 .if1 .left) in
+    let h = turn .loop-test .taken in
+    let none = passes marks (if1 .if1 .left) in
+    let far = jump-behind flagged h none (omega (arith, if2 .if2 .left)) (omega (arith, if2 .if2 .left, if3 .if3 .left, if4 .if4 .left)) in
+    let near = jump-inside flagged h none (omega (arith, if2 .if2 .left)) in
+    (flags-mark flagged, (omega (arith, c .next-offset .ensures, far), omega (arith, c .next-offset .ensures, near)))
 
 returns-4 : tie.Need-returns-4 Inv-loop μ-loop
 returns-4 c =
-    let c2 = c .before .before in
-    let c5 = c2 .before .before .before in
-    let c6 = c5 .before in
-    let c7 = c6 .before in
-    let c9 = c7 .before .before in
-    let c10 = c9 .before in
-    let c11 = c10 .before in
-    let c14 = c11 .before .before .before in
-    let c19 = c14 .before .before .before .before .before in
-    coded-stop (c14 .exam-16 .ensures) (c11 .if1 .left)
-    (going-off (c14 .exam-16 .ensures .flagged (c11 .if1 .left)) (c9 .loop-test .taken) (c10 .loop .inv) (omega (arith, c7 .if2 .left, c6 .if3 .left, c5 .if4 .left))
-    (c .before .lands-at .ensures ∙ ap (landsFrom (c19 .args .code .now))
-    (jump-next (c14 .exam-16 .ensures .flagged (c11 .if1 .left)) (c9 .loop-test .taken) (passes (c14 .exam-16 .ensures) (c11 .if1 .left)) (omega (arith, c7 .if2 .left))
-    (c2 .digits .ensures))) (not-true _ (c .if5 .taken)))
+    let lands = c .before in
+    let next = lands .before in
+    let if4 = next .before .before in
+    let if3 = if4 .before in
+    let if2 = if3 .before in
+    let turn = if2 .before .before in
+    let loop = turn .before in
+    let if1 = loop .before in
+    let marks = if1 .before .before .before in
+    let code = marks .before .before .before .before .before .args .code .now in
+    coded-stop (marks .exam-16 .ensures) (if1 .if1 .left)
+    (going-off (marks .exam-16 .ensures .flagged (if1 .if1 .left)) (turn .loop-test .taken) (loop .loop .inv)
+    (omega (arith, if2 .if2 .left, if3 .if3 .left, if4 .if4 .left)) (lands .lands-at .ensures ∙ ap (landsFrom code) (next .next-offset .ensures)) (not-true _ (c .if5 .taken)))
 
 loop-again-2 : tie.Need-loop-again-2 Inv-loop μ-loop
 loop-again-2 c =
-    let c2 = c .before .before in
-    let c5 = c2 .before .before .before in
-    let c6 = c5 .before in
-    let c7 = c6 .before in
-    let c9 = c7 .before .before in
-    let c10 = c9 .before in
-    let c11 = c10 .before in
-    let c14 = c11 .before .before .before in
-    let c19 = c14 .before .before .before .before .before in
-    going-land (c14 .exam-16 .ensures .flagged (c11 .if1 .left)) (c9 .loop-test .taken) (c10 .loop .inv) (omega (arith, c7 .if2 .left, c6 .if3 .left, c5 .if4 .left))
-    (c .before .lands-at .ensures ∙ ap (landsFrom (c19 .args .code .now))
-    (jump-next (c14 .exam-16 .ensures .flagged (c11 .if1 .left)) (c9 .loop-test .taken) (passes (c14 .exam-16 .ensures) (c11 .if1 .left)) (omega (arith, c7 .if2 .left))
-    (c2 .digits .ensures))) (not-false _ (c .if5 .left))
+    let lands = c .before in
+    let next = lands .before in
+    let if4 = next .before .before in
+    let if3 = if4 .before in
+    let if2 = if3 .before in
+    let turn = if2 .before .before in
+    let loop = turn .before in
+    let if1 = loop .before in
+    let marks = if1 .before .before .before in
+    let code = marks .before .before .before .before .before .args .code .now in
+    going-land (marks .exam-16 .ensures .flagged (if1 .if1 .left)) (turn .loop-test .taken) (loop .loop .inv)
+    (omega (arith, if2 .if2 .left, if3 .if3 .left, if4 .if4 .left)) (lands .lands-at .ensures ∙ ap (landsFrom code) (next .next-offset .ensures)) (not-false _ (c .if5 .left))
 
 returns-5 : tie.Need-returns-5 Inv-loop μ-loop
 returns-5 c = coded-end (c .before .before .before .before .before .exam-16 .ensures) (c .before .before .if1 .left) (going-end (c .loop-test .left) (c .before .loop .inv))
@@ -146,9 +126,7 @@ exam-code-spec =
     returns-2
     (λ c. search needs)
     returns-3
-    (λ c. search needs)
-    (λ c κs. search needs)
-    add-lands-at
+    next-offset-requires
     lands-at-requires
     (λ c. search needs)
     returns-4

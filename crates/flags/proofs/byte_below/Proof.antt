@@ -1,28 +1,28 @@
--- `flags::operand_below` meets its contract.
+-- `flags::byte_below` meets its contract.
 -- Assumes nothing.
 use native.Mathlib.Omega.{arith}
 use Rattle.flags.proofs.Roles.{below-limit, below-none}
 use borrow.Author.Needs.{needs}
-use Rattle.flags.proofs.operand_below.Statement.{statement}
-use Rattle.flags.proofs.operand_below.Tie as tie
+use Rattle.flags.proofs.byte_below.Statement.{statement}
+use Rattle.flags.proofs.byte_below.Tie as tie
 
 mul-long : tie.Need-mul-long
 mul-long c = omega (arith, c .before .before .before .before .before .pre .1 .role)
 
 shared-slice-read-long : tie.Need-shared-slice-read-long
-shared-slice-read-long c = omega (arith, c .before .before .before .before .before .before .pre .0 .five, c .before .before .before .before .before .before .pre .1 .role)
+shared-slice-read-long c = let p = c .before .before .before .before .before .before .pre in omega (arith, p .0 .five, p .1 .role)
 
 returns : tie.Need-returns
 returns c =
-    let c2 = c .before .before in
-    let c7 = c2 .before .before .before .before .before in
-    rw (← c2 .wide .ensures .0, c .long .ensures .0) (below-limit (c7 .pre .0) (c7 .args .role) _ (c7 .pre .1 .role) (c2 .wide .ensures .1))
+    let read = c .before .before in
+    let start = read .before .before .before .before .before in
+    rw (← read .wide .ensures .0, c .long .ensures .0) (below-limit (start .pre .0) (start .args .role) _ (start .pre .1 .role) (omega (arith, read .wide .ensures .1)))
 
 returns-2 : tie.Need-returns-2
 returns-2 c = below-none (c .before .before .before .args .limits .now) (c .before .before .before .pre .1) (c .if1 .left)
 
-pub operand-below-spec : {M : Type 1} → statement M
-operand-below-spec =
+pub byte-below-spec : {M : Type 1} → statement M
+byte-below-spec =
     tie.close
     (tie.spec
     (λ c. search needs)

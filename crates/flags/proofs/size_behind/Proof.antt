@@ -1,0 +1,50 @@
+-- `flags::size_behind` meets its contract.
+-- Assumes nothing.
+use native.Mathlib.Omega.{arith}
+use Prim.Native.Nat.{_-_, _*_, _/_, _%_, _≤_, _<_}
+use Rattle.format.specs.Insn.{widensFirst, widensSecond}
+use Rattle.format.proofs.Prefix.{one-or-two}
+use Rattle.flags.proofs.Values.{at-most-once}
+use borrow.Author.Needs.{needs}
+use Rattle.flags.proofs.size_behind.Statement.{statement}
+use Rattle.flags.proofs.size_behind.Tie as tie
+
+sub-x : tie.Need-sub-x
+sub-x c = omega (arith, c .first-width .ensures, one-or-two (widensFirst (c .before .args .p)))
+
+sub-y : tie.Need-sub-y
+sub-y c = omega (arith, c .second-width .ensures, one-or-two (widensSecond (c .before .before .args .p)))
+
+-- what each operand adds
+first : (c : tie.After-second-width) → (c .before .first-width .result - 1) * (c .before .before .args .d / 16777216 % 8) < 8
+first c =
+    let p = c .before .before .args .p in
+    at-most-once (c .before .first-width .result - 1) (c .before .before .args .d / 16777216 % 8) 8
+    (omega (arith, c .before .first-width .ensures, one-or-two (widensFirst p))) (omega arith)
+
+second : (c : tie.After-second-width) → (c .second-width .result - 1) * (c .before .before .args .d / 134217728 % 8) < 8
+second c =
+    let p = c .before .before .args .p in
+    at-most-once (c .second-width .result - 1) (c .before .before .args .d / 134217728 % 8) 8
+    (omega (arith, c .second-width .ensures, one-or-two (widensSecond p))) (omega arith)
+
+returns : tie.Need-returns
+returns c =
+    let x = c .before .first-width .ensures in
+    let y = c .second-width .ensures in
+    (rw (x, y), omega (arith, first c, second c))
+
+pub size-behind-spec : {M : Type 1} → statement M
+size-behind-spec =
+    tie.close
+    (tie.spec
+    (λ c κs. search needs)
+    sub-x
+    (λ c κs. search needs)
+    sub-y
+    (λ c. search needs)
+    (λ c. omega (arith, first c))
+    (λ c. omega (arith, first c))
+    (λ c. omega (arith, second c))
+    (λ c. omega (arith, first c, second c))
+    returns)

@@ -1,0 +1,160 @@
+-- Request b): a pattern in which no prefix begins an instruction is judged as by paper 01, where an instruction's first byte is its opcode.
+-- Assumes nothing.
+use Prim.Native.Nat.{ℕ, zero, suc, _+_, _-_, _<_, suc-le-suc}
+use native.Mathlib.Nat.{add-zero, add-suc, suc-add, zero-add}
+use native.Mathlib.Omega.{arith}
+use mathlib.Core.Path.{_≡_, refl, ap, _∙_}
+use mathlib.Core.Bool.{Bool, true, false, _&&_, not, cond}
+use mathlib.Core.List.{List, [], _∷_}
+use lib.Dec.{T, leb, ltb, eqb}
+use lib.ListN.{length, getD}
+use Rattle.format.specs.Bytes.{Answer, ok, refused, byte, refuse, first}
+use Rattle.format.specs.File.{Content}
+use Rattle.format.specs.Insn.{fields, width, kind, roles, flow, row, size, known, prefix, signed16, lastOf, operands, opcode, rowAt, operandsAt, rest}
+use Rattle.format.specs.Insn.{next, jump, target}
+use Rattle.format.specs.Line.{rising}
+use Rattle.format.specs.Tree.{whole}
+use Rattle.format.specs.Pattern.{Record, Pattern, patternOf, recAt, blank, rlens, reach, begins, lands}
+use Rattle.format.specs.Exam.{stray, readable, allBelow, operandsBelow, leads, follows, firstAt, firstOf, at16, at1718}
+use Rattle.format.specs.Exam.{exam16, exam1718, exam19, exam20, examineRecord, examineAll, examinePattern, passing}
+use Rattle.format.proofs.Prefix.{no-widening}
+use Rattle.runs.proofs.Next.{next-alone, opcode-alone}
+
+-- Paper 01's examination: sizes, places where instructions begin, operands, targets
+reach01 : List ℕ → ℕ → ℕ → Bool
+reach01 [] left o = false
+reach01 (b ∷ bs) zero zero = true
+reach01 (b ∷ bs) zero (suc o) = reach01 bs (width (kind (row b))) o
+reach01 (b ∷ bs) (suc left) zero = false
+reach01 (b ∷ bs) (suc left) (suc o) = reach01 bs left o
+
+firstAt01 : (ℕ → ℕ) → List ℕ → ℕ → ℕ → ℕ
+firstAt01 f [] left o = 0
+firstAt01 f (b ∷ bs) zero o = first (f o) (firstAt01 f bs (width (kind (row b))) (suc o))
+firstAt01 f (b ∷ bs) (suc left) o = firstAt01 f bs left (suc o)
+
+abbrev begins01 : List ℕ → ℕ → Bool
+begins01 c o = reach01 c 0 o
+
+abbrev next01 : List ℕ → ℕ → ℕ
+next01 c o = o + size (byte c o)
+
+abbrev operandsAt01 : List ℕ → ℕ → List ℕ
+operandsAt01 c o = operands (fields (kind (row (byte c o)))) c (o + 1)
+
+abbrev jump01 : List ℕ → ℕ → ℕ
+jump01 c o = next01 c o + signed16 (lastOf (operandsAt01 c o))
+
+abbrev lands01 : List ℕ → ℕ → Bool
+lands01 c o = leb 65536 (jump01 c o) && begins01 c (jump01 c o - 65536)
+
+-- 16, and 17 before 18, at an instruction
+abbrev readable01 : List ℕ → ℕ → Bool
+readable01 c o = known (byte c o) && not (prefix (byte c o)) && leb (next01 c o) (length c)
+
+abbrev tests01 : Record → ℕ → ℕ
+tests01 r o =
+    first (refuse 17 (allBelow r (roles (row (byte (r .code) o))) (operandsAt01 (r .code) o)))
+    (refuse 18 (leads (flow (row (byte (r .code) o))) (begins01 (r .code) (next01 (r .code) o)) (lands01 (r .code) o)))
+
+abbrev examineRecord01 : Record → ℕ
+examineRecord01 r =
+    first (first (refuse 16 (ltb 0 (length (r .code)))) (firstAt01 (λ (o : ℕ). refuse 16 (readable01 (r .code) o)) (r .code) 0 0))
+    (first (firstAt01 (tests01 r) (r .code) 0 0)
+    (first (firstOf (λ (t : ℕ). refuse 19 (begins01 (r .code) t)) (r .handlers)) (refuse 20 (rising (r .lines)))))
+
+examineAll01 : List Record → ℕ
+examineAll01 [] = 0
+examineAll01 (r ∷ rs) = first (examineRecord01 r) (examineAll01 rs)
+
+pub examinePattern01 : Pattern → ℕ
+examinePattern01 p = first (refuse 15 (whole (rlens p))) (examineAll01 p)
+
+-- no prefix begins an instruction
+abbrev pub NoPrefix : List ℕ → Type 0
+NoPrefix c = (o : ℕ) → T (begins c o) → prefix (byte c o) ≡ false
+
+-- then instructions begin where paper 01 has them
+rest-alone : (b : ℕ) (bs : List ℕ) → prefix b ≡ false → rest b bs ≡ width (kind (row b))
+unfolding rest opcode
+rest-alone b bs e = rw (no-widening b e, e) (zero-add _)
+
+reach-same : (bs : List ℕ) (left : ℕ) → ((j : ℕ) → T (reach bs left j) → prefix (byte bs j) ≡ false) → (o : ℕ) → reach bs left o ≡ reach01 bs left o
+unfolding reach reach01
+reach-same [] left h o = refl
+reach-same (b ∷ bs) zero h zero = refl
+reach-same (b ∷ bs) zero h (suc o) = reach-same bs (rest b bs) (λ j t. h (suc j) t) o ∙ ap (λ (n : ℕ). reach01 bs n o) (rest-alone b bs (h 0 tt))
+reach-same (b ∷ bs) (suc left) h zero = refl
+reach-same (b ∷ bs) (suc left) h (suc o) = reach-same bs left (λ j t. h (suc j) t) o
+
+first-same : (f g : ℕ → ℕ) (bs : List ℕ) (left o : ℕ) → ((j : ℕ) → T (reach bs left j) → prefix (byte bs j) ≡ false)
+    → ((j : ℕ) → T (reach bs left j) → f (o + j) ≡ g (o + j)) → firstAt f bs left o ≡ firstAt01 g bs left o
+unfolding reach firstAt firstAt01
+first-same f g [] left o h e = refl
+first-same f g (b ∷ bs) zero o h e =
+    let here : f o ≡ g o = rw add-zero at (e 0 tt) in
+    let later = first-same f g bs (rest b bs) (suc o) (λ j t. h (suc j) t) (λ j t. rw (add-suc, ← suc-add) at (e (suc j) t)) in
+    rw (here, later, rest-alone b bs (h 0 tt))
+first-same f g (b ∷ bs) (suc left) o h e =
+    first-same f g bs left (suc o) (λ j t. h (suc j) t) (λ j t. rw (add-suc, ← suc-add) at (e (suc j) t))
+
+-- and the tests answer what they answer there
+module _ (c : List ℕ) (n : NoPrefix c) where
+  begins-same : (t : ℕ) → begins c t ≡ begins01 c t
+  begins-same t = reach-same c 0 n t
+
+  module _ (o : ℕ) (p : prefix (byte c o) ≡ false) where
+    operands-same : operandsAt c o ≡ operandsAt01 c o
+    operands-same = rw (opcode-alone c o p, no-widening (byte c o) p, p, add-zero)
+
+    jump-same : jump c o ≡ jump01 c o
+    unfolding jump
+    jump-same = rw (next-alone c o p, operands-same)
+
+    lands-same : lands c o ≡ lands01 c o
+    unfolding lands target
+    lands-same = rw (jump-same, begins-same)
+
+    at16-same : at16 c o ≡ refuse 16 (readable01 c o)
+    unfolding stray readable
+    at16-same = rw (p, opcode-alone c o p, next-alone c o p) (ap (refuse 16) (go (known (byte c o)) (leb (next01 c o) (length c))))
+      where
+        go : (a d : Bool) → (a && d) ≡ (a && true && d)
+        go true d = refl
+        go false d = refl
+
+module _ (r : Record) (n : NoPrefix (r .code)) where
+  tests-same : (o : ℕ) → prefix (byte (r .code) o) ≡ false → at1718 r o ≡ tests01 r o
+  unfolding operandsBelow follows
+  tests-same o p =
+      let c = r .code in
+      let w = opcode-alone c o p in
+      rw (operands-same c n o p, lands-same c n o p, next-alone c o p, begins-same c n, w)
+
+  handlers-same : (ts : List ℕ) → firstOf (λ (t : ℕ). refuse 19 (begins (r .code) t)) ts ≡ firstOf (λ (t : ℕ). refuse 19 (begins01 (r .code) t)) ts
+  unfolding firstOf
+  handlers-same [] = refl
+  handlers-same (t ∷ ts) = rw (begins-same (r .code) n t, handlers-same ts)
+
+  record-same : examineRecord r ≡ examineRecord01 r
+  unfolding examineRecord exam16 exam1718 exam19 exam20
+  record-same =
+      let c = r .code in
+      let a = first-same (at16 c) (λ (o : ℕ). refuse 16 (readable01 c o)) c 0 0 n (λ j t. rw zero-add (at16-same c n j (n j t))) in
+      let b = first-same (at1718 r) (tests01 r) c 0 0 n (λ j t. rw zero-add (tests-same j (n j t))) in
+      rw (a, b, handlers-same (r .handlers))
+
+all-same : (rs : List Record) → ((i : ℕ) → i < length rs → NoPrefix (getD rs i blank .code)) → examineAll rs ≡ examineAll01 rs
+unfolding examineAll examineAll01
+all-same [] n = refl
+all-same (r ∷ rs) n = rw (record-same r (n 0 (omega arith)), all-same rs (λ i h. n (suc i) (suc-le-suc h)))
+
+-- "the same file without prefixes is judged as before": the same number, and so the same answer for the file
+pub judged-as-before : (p : Pattern) → ((i : ℕ) → i < length p → NoPrefix (recAt p i .code)) → examinePattern p ≡ examinePattern01 p
+unfolding examinePattern examinePattern01
+judged-as-before p n = rw (all-same p n)
+
+pub passing-as-before : (f : List ℕ) (c : Content) → let p = patternOf f c in ((i : ℕ) → i < length p → NoPrefix (recAt p i .code))
+    → passing f c ≡ cond (eqb (examinePattern01 (patternOf f c)) 0) (ok c) (refused (examinePattern01 (patternOf f c)))
+unfolding passing
+passing-as-before f c n = rw (judged-as-before (patternOf f c) n)
