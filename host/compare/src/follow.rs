@@ -2,12 +2,13 @@
 
 use crate::Stop;
 use crate::args::Args;
-use crate::examine::of_corpus;
+use crate::examine::NOT_PASSING;
 use crate::generate::{Generator, steps};
 use crate::load::{ANSWERS, at_work, corpus, difference, garbage, hex, other_sizes, watch};
+use crate::prefixes::PREFIXES;
 use crate::rng::Rng;
 use crate::subject::{Model, Subject, first_difference, subjects};
-use model::{OPCODES, Refusal, Rows, Sizes};
+use model::{OPCODES, Refusal, Rows, Sizes, Step};
 use std::collections::BTreeMap;
 
 #[derive(Default)]
@@ -21,6 +22,30 @@ struct Counts {
     by_frames: [u64; 5],
     /// Frames that are left, by the opcode that they were entered at.
     by_entry: BTreeMap<&'static str, u64>,
+    /// Of these frames, those entered behind a prefix, and those at a child whose number has two bytes.
+    entered_wide: [u64; 2],
+    /// Runs whose top frame stands at each prefix.
+    at_prefix: [u64; PREFIXES.len()],
+}
+
+impl Counts {
+    /// Counts the instructions at which frames were entered.
+    fn count_entries(&mut self, entries: &[Step]) {
+        for step in entries {
+            let name = OPCODES[step.opcode].name;
+            *self.by_entry.entry(name).or_default() += 1;
+            let [behind, wide] = &mut self.entered_wide;
+            *behind += u64::from(step.prefix.is_some());
+            *wide += u64::from(step.child().is_some_and(|child| child > 255));
+        }
+    }
+
+    /// Counts the instruction at which the top frame stands.
+    fn count_top(&mut self, step: &Step) {
+        for (count, prefix) in self.at_prefix.iter_mut().zip(PREFIXES) {
+            *count += u64::from(step.prefix == Some(prefix));
+        }
+    }
 }
 
 /// `compare follow`
@@ -43,7 +68,7 @@ pub fn compare(args: &Args) -> Result<(), Stop> {
             let mut frames = vec![1; 2 * records];
             let mut tables = garbage(&sizes, &mut Rng::new(seed, 0));
             let answer = subject.follow(file, &mut tables, &mut frames, &[]);
-            if answer.refusal != of_corpus(name) {
+            if answer.refusal != 0 {
                 let why = format!("{} answers {answer:?}", subject.name());
                 return Err(difference(name, file, &why));
             }
@@ -72,7 +97,8 @@ pub fn compare(args: &Args) -> Result<(), Stop> {
     println!("subjects: {}", names.join(", "));
     println!("runs: {}", counts.runs);
     let runs_of = |number| counts.by_number.get(&number).copied().unwrap_or(0);
-    for number in ANSWERS.into_iter().skip(1).chain(15..=21) {
+    let refusals = ANSWERS.into_iter().skip(1).chain(NOT_PASSING);
+    for number in refusals.chain([21]) {
         println!("  refused {number:<3}{:>9}", runs_of(number));
     }
     println!(
@@ -83,8 +109,14 @@ pub fn compare(args: &Args) -> Result<(), Stop> {
     println!("  finished   {:>9}", counts.finished);
     println!("  with a line{:>9}", counts.with_line);
     println!(
-        "  by frames, from 0 to 3 and more: {:?}\n  frames by the opcode of their entry: {:?}\nno difference",
+        "  by frames, from 0 to 3 and more: {:?}\n  frames by the opcode of their entry: {:?}",
         counts.by_frames, counts.by_entry
+    );
+    let [behind, wide] = counts.entered_wide;
+    println!("  frames entered behind a prefix: {behind}, at a child above 255: {wide}");
+    println!(
+        "  top frames at each prefix: {:?}\nno difference",
+        counts.at_prefix
     );
     Ok(())
 }
@@ -168,22 +200,23 @@ pub fn frame_words(records: usize, rng: &mut Rng) -> usize {
 }
 
 /// The instructions at which the frames but the lowest were entered: each stands before the offset of the frame below.
-fn entries<'a>(file: &'a [u8], rows: &Rows, frames: &[u32], number: u32) -> Vec<&'a [u8]> {
+fn entries(file: &[u8], rows: &Rows, frames: &[u32], number: u32) -> Vec<Step> {
     let below = frames
         .chunks_exact(2)
         .take(number.saturating_sub(1) as usize);
     below
-        .map(|frame| entry(file, rows, frame[0], frame[1] as usize))
+        .map(|frame| {
+            let is_before = |step: &Step| step.next == frame[1] as usize;
+            step_of(file, rows, frame[0], is_before)
+        })
         .collect()
 }
 
-/// The instruction of a record that stands before an offset.
-fn entry<'a>(file: &'a [u8], rows: &Rows, record: u32, offset: usize) -> &'a [u8] {
-    let record = &rows.records.rows[record as usize];
-    let end = record.place as usize + offset;
-    let before = steps(file, record).into_iter().filter(|at| *at < end);
-    let last = before.max();
-    &file[last.expect("a frame with one above it stands behind an instruction")..end]
+/// The instruction of a record that is such a one.
+fn step_of(file: &[u8], rows: &Rows, record: u32, is_such: impl Fn(&Step) -> bool) -> Step {
+    let mut steps = steps(file, &rows.records.rows[record as usize]).into_iter();
+    let found = steps.find(is_such);
+    found.expect("a frame stands at an instruction, and behind one if it was entered from")
 }
 
 /// Holds every subject against the model on one file, over some choices, sizes and frame table.
@@ -230,7 +263,7 @@ fn one(
             ));
         }
     }
-    let [finished, _, _, found, _, frames] = right.numbers;
+    let [finished, record, offset, found, _, frames] = right.numbers;
     counts.runs += 1;
     *counts.by_number.entry(right.refusal).or_default() += 1;
     if right.refusal == 0 {
@@ -238,9 +271,10 @@ fn one(
         counts.finished += u64::from(finished);
         counts.with_line += u64::from(found);
         counts.by_frames[frames.min(4) as usize] += 1;
-        for step in entries(file, &rows, &right_frames, frames) {
-            let name = OPCODES[usize::from(step[0])].name;
-            *counts.by_entry.entry(name).or_default() += 1;
+        counts.count_entries(&entries(file, &rows, &right_frames, frames));
+        if frames > 0 {
+            let is_top = |step: &Step| step.offset == offset as usize;
+            counts.count_top(&step_of(file, &rows, record, is_top));
         }
     }
     Ok(())
@@ -251,7 +285,7 @@ mod tests {
     use super::*;
 
     /// The entries of the frames that are left after runs of files from a seed.
-    fn entries_of_runs(files: u64) -> Vec<Vec<u8>> {
+    fn entries_of_runs(files: u64) -> Vec<Step> {
         let generator = Generator { corpus: Vec::new() };
         let mut all = Vec::new();
         for index in 0..files {
@@ -261,25 +295,67 @@ mod tests {
             let words = 2 * rows.used()[0];
             let choices = choices_of(&file, &sizes, words, &mut Rng::new(!1, index));
             let right = model::follow(&file, &sizes, words, &choices);
-            let entries = entries(&file, &rows, &right.frame_table, right.frames);
-            all.extend(entries.into_iter().map(<[u8]>::to_vec));
+            all.extend(entries(&file, &rows, &right.frame_table, right.frames));
         }
         all
     }
 
     #[test]
     fn runs_enter_at_every_child_opcode() {
-        let entries = entries_of_runs(2_000);
+        let entries = entries_of_runs(4_000);
         let at = |name: &'static str| {
-            let is_such = move |step: &&Vec<u8>| OPCODES[usize::from(step[0])].name == name;
+            let is_such = move |step: &&Step| OPCODES[step.opcode].name == name;
             entries.iter().filter(is_such)
         };
         for name in ["LAMBDA", "BLOCK", "METHOD", "EXEC", "TDEF", "SDEF"] {
-            assert!(at(name).count() > 0, "{name}");
+            assert!(at(name).any(|step| step.prefix.is_none()), "{name}");
+            assert!(at(name).any(|step| step.prefix.is_some()), "{name}");
         }
         // The symbol's number is not the child's.
         for name in ["TDEF", "SDEF"] {
-            assert!(at(name).any(|step| step[2] != step[3]), "{name}");
+            let differ = |step: &Step| step.operands[1] != step.operands[2];
+            assert!(at(name).any(differ), "{name}");
         }
+        let above_255 = |step: &Step| step.child().is_some_and(|child| child > 255);
+        assert!(entries.iter().any(above_255));
+    }
+
+    /// The kinds of choices that a run takes at instructions behind prefixes.
+    fn at_prefixes(file: &[u8], choices: &[u8]) -> Vec<u8> {
+        let reading = model::read(file, [usize::MAX; 9]);
+        let sizes = Sizes::of_rows(reading.rows.used());
+        let words = 2 * reading.rows.used()[0];
+        let mut kinds = Vec::new();
+        let mut at = 0;
+        while at < choices.len() {
+            let followed = model::follow(file, &sizes, words, &choices[..at]);
+            let Some((record, offset)) = followed.top else {
+                break;
+            };
+            let is_top = |step: &Step| step.offset == offset as usize;
+            let step = step_of(file, &reading.rows, record, is_top);
+            if step.prefix.is_some() {
+                kinds.push(choices[at]);
+            }
+            at += if choices[at] == 3 { 3 } else { 1 };
+        }
+        kinds
+    }
+
+    #[test]
+    fn runs_take_every_choice_behind_prefixes() {
+        let generator = Generator { corpus: Vec::new() };
+        let mut taken = [0; 5];
+        for index in 0..300 {
+            let file = generator.runnable(1, index);
+            let mut rng = Rng::new(!1, index);
+            let choices = choices(&mut rng);
+            if choices.len() < 40 && model::choices(&choices).is_ok() {
+                for kind in at_prefixes(&file, &choices) {
+                    taken[usize::from(kind)] += 1;
+                }
+            }
+        }
+        assert!(taken.iter().all(|times| *times > 0), "{taken:?}");
     }
 }

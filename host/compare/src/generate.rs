@@ -1,8 +1,10 @@
 //! Files from a seed: valid, damaged and at the boundaries of the papers.
 
 use crate::newer::{CHILD_THIRD, NEWER};
+use crate::prefixes::{PREFIXES, instruction, size, widths};
 use crate::rng::Rng;
-use model::{Flow, HEADER, OPCODES, Record, Role, Rows, bound, flow, roles};
+use crate::sample::{self, BARE, STOP};
+use model::{Flow, HEADER, OPCODES, Record, Role, Rows, Step, bound, flow, roles};
 
 /// Makes files; the corpus is the stock of real ones.
 pub struct Generator {
@@ -10,7 +12,7 @@ pub struct Generator {
 }
 
 /// The families of files, in the order in which they are counted.
-pub const FAMILIES: [&str; 13] = [
+pub const FAMILIES: [&str; 14] = [
     "structured",
     "debug",
     "overlapping",
@@ -23,17 +25,30 @@ pub const FAMILIES: [&str; 13] = [
     "many records",
     "many children",
     "bytes",
+    "children above 255",
     "ident and size",
 ];
 
 /// The family that meets 27 and 28; the others have the ident and no size above their length.
-const IDENT_AND_SIZE: usize = 12;
+const IDENT_AND_SIZE: usize = 13;
 
 /// JMP, JMPIF, JMPNOT, JMPNIL and JMPUW.
 const JUMPS: [usize; 5] = [38, 39, 40, 41, 42];
 
 /// LAMBDA, BLOCK, METHOD and EXEC, whose second operand is a child.
 const CHILD_SECOND: [usize; 4] = [97, 98, 99, 105];
+
+/// LOADL, SYMBOL, STRING and ERR, which have a constant.
+const WITH_CONSTANT: [usize; 4] = [2, 91, 92, 114];
+
+/// LOADSYM, ALIAS and UNDEF, which have symbols.
+const WITH_SYMBOL: [usize; 3] = [16, 109, 110];
+
+/// The prefixes that widen a second operand.
+const SECOND_WIDE: [u8; 2] = [116, 117];
+
+/// How many numbers an operand of one byte has.
+const NARROW: usize = 256;
 
 impl Generator {
     /// The file of a seed and an index, with its family.
@@ -57,7 +72,8 @@ impl Generator {
             920..940 => 8,
             940..945 => 9,
             945..950 => 10,
-            950..960 => 11,
+            950..958 => 11,
+            958..960 => 12,
             _ => IDENT_AND_SIZE,
         };
         let mut file = match family {
@@ -80,6 +96,7 @@ impl Generator {
             9 => maker.many_records(),
             10 => maker.many_children(),
             11 => maker.any_bytes(),
+            12 => maker.children_above_255(),
             _ => maker.ident_and_size(),
         };
         if family != IDENT_AND_SIZE {
@@ -103,10 +120,14 @@ impl Generator {
         let mut file = if maker.rng.one_in(8) && !self.corpus.is_empty() {
             self.corpus[maker.rng.below(self.corpus.len())].clone()
         } else {
-            maker.structured(debug)
+            maker.sound_file(debug)
         };
         if maker.rng.one_in(2) {
             maker.flaw(&mut file);
+            // Two numbers in one file, of which the first is met.
+            if maker.rng.one_in(8) {
+                maker.flaw(&mut file);
+            }
         }
         maker.finish_header(&mut file);
         file
@@ -125,7 +146,7 @@ impl Generator {
                     odd: 0,
                     sound: true,
                 };
-                let mut file = maker.structured(debug);
+                let mut file = maker.sound_file(debug);
                 maker.finish_header(&mut file);
                 file
             }
@@ -202,36 +223,48 @@ fn seen(file: &[u8]) -> Vec<Seen> {
         .collect()
 }
 
-/// Where the instructions of code begin, as far as they are whole.
-fn begins(code: &[u8]) -> Vec<usize> {
-    let mut begins = Vec::new();
-    let mut at = 0;
-    while let Some(opcode) = code
-        .get(at)
-        .and_then(|byte| OPCODES.get(usize::from(*byte)))
-    {
-        if at + opcode.kind.size() > code.len() {
-            break;
-        }
-        begins.push(at);
-        at += opcode.kind.size();
+/// The instructions of a record, as far as they are whole.
+pub fn steps(file: &[u8], record: &Record) -> Vec<Step> {
+    let code = &file[record.place as usize..][..record.ilen as usize];
+    let mut steps = Vec::new();
+    let mut offset = 0;
+    while let Ok(step) = model::step_at(code, offset) {
+        offset = step.next;
+        steps.push(step);
     }
-    begins
+    steps
 }
 
-/// The places of a record's instructions in the file, as far as they are whole.
-pub fn steps(file: &[u8], record: &Record) -> Vec<usize> {
-    let place = record.place as usize;
-    let begins = begins(&file[place..place + record.ilen as usize]).into_iter();
-    begins.map(|begin| place + begin).collect()
+/// The place in the file of an instruction's opcode, which stands behind its prefix.
+fn opcode_place(record: &Record, step: &Step) -> usize {
+    record.place as usize + step.offset + usize::from(step.prefix.is_some())
 }
 
-/// The places of all instructions of a file, with their records.
-pub fn all_steps<'a>(file: &'a [u8], rows: &'a Rows) -> impl Iterator<Item = (&'a Record, usize)> {
+/// Those instructions that jump.
+fn jumps(steps: &[Step]) -> Vec<Step> {
+    let jumps = steps.iter().copied();
+    jumps.filter(|step| JUMPS.contains(&step.opcode)).collect()
+}
+
+/// Leads a jump of a record to an offset; its distance stands last.
+fn lead_jump(file: &mut [u8], record: &Record, jump: &Step, target: usize) {
+    let next = record.place as usize + jump.next;
+    let distance = target.wrapping_sub(jump.next);
+    file[next - 2..next].copy_from_slice(&be2(distance));
+}
+
+/// Leads a handler of a record to an offset.
+fn lead_handler(file: &mut [u8], record: &Record, handler: usize, target: usize) {
+    let at = (record.place + record.ilen) as usize + 13 * handler + 9;
+    file[at..at + 4].copy_from_slice(&be4(target));
+}
+
+/// All instructions of a file, with their records.
+pub fn all_steps<'a>(file: &'a [u8], rows: &'a Rows) -> impl Iterator<Item = (&'a Record, Step)> {
     let records = rows.records.rows.iter();
     records.flat_map(|record| {
         let steps = steps(file, record).into_iter();
-        steps.map(move |at| (record, at))
+        steps.map(move |step| (record, step))
     })
 }
 
@@ -250,6 +283,14 @@ impl Maker {
     /// A number that is 0 half of the time, and else small.
     fn few_or_none(&mut self) -> usize {
         if self.rng.one_in(2) { self.small(8) } else { 0 }
+    }
+
+    /// This number of texts, or once in a while one about as large as what an operand of one byte reaches.
+    fn many_or(&mut self, few: usize) -> usize {
+        if self.rng.one_in(60) {
+            return self.rng.between(NARROW - 2, NARROW + 6);
+        }
+        few
     }
 
     /// A count or size, odd once in a while.
@@ -371,6 +412,11 @@ impl Maker {
         }
     }
 
+    /// A prefix once in so many times.
+    fn prefix(&mut self, times: usize) -> Option<u8> {
+        self.rng.one_in(times).then(|| self.rng.pick(&PREFIXES))
+    }
+
     /// Instructions, or any bytes.
     fn code(&mut self) -> Vec<u8> {
         let mut code = Vec::new();
@@ -379,9 +425,14 @@ impl Maker {
             return self.rng.bytes(length);
         }
         for _ in 0..self.small(10) {
+            let prefix = self.prefix(4);
             let opcode = self.rng.below(OPCODES.len());
+            code.extend(prefix);
             code.push(opcode as u8);
-            for _ in 1..OPCODES[opcode].kind.size() {
+            for _ in 0..widths(prefix, OPCODES[opcode].kind)
+                .into_iter()
+                .sum::<usize>()
+            {
                 code.push(if self.rng.one_in(3) {
                     self.rng.byte()
                 } else {
@@ -394,7 +445,6 @@ impl Maker {
 
     /// Instructions that pass examination in a record with these bounds, and where they begin.
     fn good_code(&mut self, bound: impl Fn(Role) -> usize) -> (Vec<u8>, Vec<usize>) {
-        let mut opcodes = Vec::new();
         let number = if self.sound {
             self.rng.below(14)
         } else {
@@ -402,12 +452,28 @@ impl Maker {
         };
         let fits = |opcode: usize| {
             let has_rows = |role: &Role| *role == Role::Plain || bound(*role) > 0;
-            !(115..=117).contains(&opcode) && roles(&OPCODES[opcode]).iter().all(has_rows)
+            !PREFIXES.contains(&(opcode as u8)) && roles(&OPCODES[opcode]).iter().all(has_rows)
         };
-        while opcodes.len() < number {
+        // Where children are many the first steps can enter all of them.
+        let entries = if self.sound && bound(Role::Child) > NARROW {
+            3
+        } else {
+            0
+        };
+        let mut opcodes: Vec<usize> = (0..entries).map(|_| self.rng.pick(&CHILD_SECOND)).collect();
+        while opcodes.len() < entries + number {
             let mut opcode = self.rng.below(OPCODES.len());
             if self.sound && self.rng.one_in(2) {
-                let often = self.rng.pick(&[&JUMPS[..], &CHILD_SECOND, &NEWER]);
+                let mut often = self.rng.pick(&[&JUMPS[..], &CHILD_SECOND, &NEWER]);
+                for (role, opcodes) in [
+                    (Role::Child, &CHILD_SECOND[..]),
+                    (Role::Pool, &WITH_CONSTANT),
+                    (Role::Symbol, &WITH_SYMBOL),
+                ] {
+                    if bound(role) > NARROW && self.rng.one_in(2) {
+                        often = opcodes;
+                    }
+                }
                 opcode = self.rng.pick(often);
             }
             if fits(opcode) {
@@ -422,30 +488,50 @@ impl Maker {
                 .pick(&[118, 61, 62, 63, 64, 65, 66, 67, 53, 114, 38, 42]);
         }
         opcodes.push(if fits(last) { last } else { 118 });
+        let many = [Role::Child, Role::Pool, Role::Symbol].map(|role| bound(role) > NARROW);
+        let times = if many.contains(&true) { 2 } else { 4 };
+        let mut prefixed: Vec<(Option<u8>, usize)> = opcodes
+            .into_iter()
+            .map(|opcode| (self.prefix(times), opcode))
+            .collect();
+        for (prefix, _) in &mut prefixed[..entries] {
+            *prefix = Some(self.rng.pick(&SECOND_WIDE));
+        }
         let mut begins = vec![0];
-        for opcode in &opcodes {
-            begins.push(begins[begins.len() - 1] + OPCODES[*opcode].kind.size());
+        for (prefix, opcode) in &prefixed {
+            begins.push(begins[begins.len() - 1] + size(*prefix, OPCODES[*opcode].kind));
         }
         let length = begins.pop().unwrap();
         let mut code = Vec::new();
-        for opcode in opcodes {
-            let mut step = self.rng.bytes(OPCODES[opcode].kind.size());
-            step[0] = opcode as u8;
-            for (i, role) in roles(&OPCODES[opcode]).into_iter().enumerate() {
-                if role != Role::Plain {
-                    step[1 + i] = self.rng.below(bound(role).min(256)) as u8;
-                }
-            }
-            if let Flow::Jump | Flow::MayJump = flow(&OPCODES[opcode]) {
-                let next = code.len() + step.len();
+        for (prefix, opcode) in prefixed {
+            let row = &OPCODES[opcode];
+            let places = widths(prefix, row.kind).into_iter().zip(roles(row));
+            let mut operands: Vec<u32> = places
+                .map(|(width, role)| self.good_operand(width, role, bound(role)))
+                .collect();
+            if let Flow::Jump | Flow::MayJump = flow(row) {
+                let next = code.len() + size(prefix, row.kind);
                 let distance = self.rng.pick(&begins).wrapping_sub(next);
-                let at = step.len() - 2;
-                step[at..].copy_from_slice(&be2(distance));
+                *operands.last_mut().unwrap() = u32::from(distance as u16);
             }
-            code.extend(step);
+            code.extend(instruction(prefix, opcode as u8, &operands));
         }
         debug_assert_eq!(code.len(), length);
         (code, begins)
+    }
+
+    /// An operand of so many bytes: any where it is plain, else below its bound and often the last that is.
+    fn good_operand(&mut self, width: usize, role: Role, bound: usize) -> u32 {
+        let end = 1 << (8 * width);
+        let end = match role {
+            Role::Plain => end,
+            _ => bound.min(end),
+        };
+        match self.rng.below(4) {
+            0 if role != Role::Plain => end as u32 - 1,
+            1 if end > NARROW => self.rng.between(NARROW - 1, end - 1) as u32,
+            _ => self.rng.below(end) as u32,
+        }
     }
 
     fn handler(&mut self) -> Vec<u8> {
@@ -472,7 +558,11 @@ impl Maker {
         } else {
             nlocals
         };
-        let nregs = nlocals + self.small(8);
+        let few = nlocals + self.small(8);
+        let nregs = match self.rng.below(6) {
+            0 => self.rng.pick(&[255, 256, 257, 300, 515, 65_535]).max(few),
+            _ => few,
+        };
         let handlers = if self.sound || self.rng.one_in(3) {
             self.small(5)
         } else {
@@ -489,6 +579,7 @@ impl Maker {
         } else {
             self.few_or_none()
         };
+        let [symbols, constants] = [symbols, constants].map(|few| self.many_or(few));
         let (code, begins) = match code {
             Some(code) => (code.to_vec(), vec![0]),
             None if !self.sound && self.rng.one_in(4) => (self.code(), vec![0]),
@@ -932,6 +1023,35 @@ impl Maker {
         self.with_sections(file, debug)
     }
 
+    /// A file that passes, but for a map now and then.
+    fn sound_file(&mut self, debug: bool) -> Vec<u8> {
+        if self.rng.one_in(40) {
+            return self.children_above_255();
+        }
+        self.structured(debug)
+    }
+
+    /// A first record with about 256 children, one of them with children of its own; the others have three steps.
+    fn children_above_255(&mut self) -> Vec<u8> {
+        let children = self.rng.between(NARROW - 2, NARROW + 44);
+        let parent = self.rng.below(4);
+        let own = self.rng.below(3);
+        let bare = sample::record(&[0, 0, STOP], &[], BARE);
+        let mut records = self.record(children, None, 0);
+        for child in 0..children {
+            if child == parent {
+                records.extend(self.record(own, None, 0));
+                records.extend(bare.repeat(own));
+            } else {
+                records.extend(&bare);
+            }
+        }
+        let mut file = self.header();
+        let irep = self.irep(&records);
+        file.extend(irep);
+        self.with_sections(file, false)
+    }
+
     /// Records that overlap: one inside another's code, or steps smaller than a record.
     fn overlapping(&mut self) -> Vec<u8> {
         let mut file = self.header();
@@ -1275,50 +1395,57 @@ impl Maker {
         if reading.end.is_err() || records.is_empty() {
             return;
         }
-        let record = self.rng.pick(records);
+        // The first record of many has most of what can be changed.
+        let record = match records.len() {
+            NARROW.. if !self.rng.one_in(4) => records[0],
+            _ => self.rng.pick(records),
+        };
         let place = record.place as usize;
         let ilen = record.ilen as usize;
         let steps = steps(file, &record);
-        let Some(last) = steps.last().copied() else {
+        let Some(last) = steps.last() else {
             return;
         };
-        let at = self.rng.pick(&steps);
-        match self.rng.below(20) {
+        let last = opcode_place(&record, last);
+        let step = self.rng.pick(&steps);
+        match self.rng.below(24) {
             0 => {
                 // The number of children.
                 let rlen = record.rlen as usize + self.rng.pick(&[1, 2, 65_535, 65_534]);
                 file[place - 8..place - 6].copy_from_slice(&be2(rlen));
             }
-            1 => file[at] = self.rng.pick(&[115, 116, 117, 119, 120, 127, 128, 255]),
+            1 => {
+                let other = self.rng.pick(&[115, 116, 117, 119, 120, 127, 128, 255]);
+                file[place + step.offset] = other;
+            }
             2 => file[last] = self.rng.below(119) as u8,
             3 => {
                 // An instruction of one byte that does not end, or a longer one that is cut.
                 file[last] = self.rng.pick(&[0, 59, 0, 59, 1, 15, 57]);
             }
-            4..=7 => self.flaw_operand(file, at, &record),
+            4..=7 => self.flaw_operand(file, &record, &step),
             8 | 9 => {
-                let mut jumps = steps;
-                jumps.retain(|at| JUMPS.contains(&usize::from(file[*at])));
+                let jumps = jumps(&steps);
                 if !jumps.is_empty() {
                     let jump = self.rng.pick(&jumps);
-                    self.flaw_jump(file, jump, ilen);
+                    self.flaw_jump(file, &record, &jump);
                 }
             }
             10..=12 if record.clen > 0 => {
                 let handler = self.rng.below(record.clen as usize);
-                let at = place + ilen + 13 * handler + 9;
                 let target = match self.rng.below(4) {
                     0 => ilen,
                     1 => self.rng.word() as usize,
                     _ => self.rng.below(ilen + 2),
                 };
-                file[at..at + 4].copy_from_slice(&be4(target));
+                lead_handler(file, &record, handler, target);
             }
             13 => {
                 let at = place + self.rng.below(ilen);
                 file[at] = self.rng.byte();
             }
             14..=17 => self.flaw_newer(file, &reading.rows),
+            18..=21 => self.flaw_prefix(file, &reading.rows),
             _ => self.flaw_map(file),
         }
     }
@@ -1326,19 +1453,55 @@ impl Maker {
     /// An operand of a newer opcode in any record, of TDEF and SDEF half of the time.
     fn flaw_newer(&mut self, file: &mut [u8], rows: &Rows) {
         let opcodes = self.rng.pick(&[&NEWER[..], &CHILD_THIRD]);
-        let newer: Vec<(Record, usize)> = all_steps(file, rows)
-            .filter(|(_, at)| opcodes.contains(&usize::from(file[*at])))
-            .map(|(record, at)| (*record, at))
+        let newer: Vec<(Record, Step)> = all_steps(file, rows)
+            .filter(|(_, step)| opcodes.contains(&step.opcode))
+            .map(|(record, step)| (*record, step))
             .collect();
         if !newer.is_empty() {
-            let (record, at) = self.rng.pick(&newer);
-            self.flaw_operand(file, at, &record);
+            let (record, step) = self.rng.pick(&newer);
+            self.flaw_operand(file, &record, &step);
+        }
+    }
+
+    /// A prefix in any record: another or none, what stands behind it, what leads to that, or a prefix that is last.
+    fn flaw_prefix(&mut self, file: &mut [u8], rows: &Rows) {
+        let prefixed: Vec<(Record, Step)> = all_steps(file, rows)
+            .filter(|(_, step)| step.prefix.is_some())
+            .map(|(record, step)| (*record, step))
+            .collect();
+        if prefixed.is_empty() {
+            return;
+        }
+        let (record, step) = self.rng.pick(&prefixed);
+        let opcode = opcode_place(&record, &step);
+        match self.rng.below(10) {
+            0 => file[opcode - 1] = self.rng.pick(&PREFIXES),
+            1 => file[opcode - 1] = 0,
+            2 => file[opcode] = self.rng.pick(&PREFIXES),
+            3 => file[opcode] = self.rng.pick(&[119, 120, 127, 128, 255]),
+            4 => file[opcode] = self.rng.below(119) as u8,
+            5 => file[(record.place + record.ilen) as usize - 1] = self.rng.pick(&PREFIXES),
+            6 | 7 => self.lead_somewhere(file, &record, step.offset + 1),
+            _ => self.flaw_operand(file, &record, &step),
+        }
+    }
+
+    /// Leads a jump or a handler of a record to an offset, where it has one.
+    fn lead_somewhere(&mut self, file: &mut [u8], record: &Record, target: usize) {
+        let jumps = jumps(&steps(file, record));
+        if record.clen > 0 && (jumps.is_empty() || self.rng.one_in(2)) {
+            let handler = self.rng.below(record.clen as usize);
+            lead_handler(file, record, handler, target);
+        } else if !jumps.is_empty() {
+            let jump = self.rng.pick(&jumps);
+            lead_jump(file, record, &jump, target);
         }
     }
 
     /// An operand of an instruction that has a role: at or beside its bound, or now and then another role's.
-    fn flaw_operand(&mut self, file: &mut [u8], at: usize, record: &Record) {
-        let roles = roles(&OPCODES[usize::from(file[at])]);
+    fn flaw_operand(&mut self, file: &mut [u8], record: &Record, step: &Step) {
+        let row = &OPCODES[step.opcode];
+        let roles = roles(row);
         let held: Vec<usize> = (0..roles.len())
             .filter(|operand| roles[*operand] != Role::Plain)
             .collect();
@@ -1354,22 +1517,38 @@ impl Maker {
         };
         let bound = bound(role, record).unwrap_or(0);
         let number = (bound + self.rng.pick(&[0, 0, 1])).saturating_sub(self.rng.pick(&[0, 0, 1]));
-        // An operand of one byte does not reach a higher bound.
-        file[at + 1 + operand] = number.min(255) as u8;
+        let widths = widths(step.prefix, row.kind);
+        let before: usize = widths[..operand].iter().sum();
+        let at = opcode_place(record, step) + 1 + before;
+        if widths[operand] == 1 {
+            // An operand of one byte does not reach a higher bound.
+            file[at] = number.min(255) as u8;
+        } else {
+            let number = self.other_wide(number.min(65_535) as u16);
+            file[at..at + 2].copy_from_slice(&number.to_be_bytes());
+        }
+    }
+
+    /// A number of two bytes: this one, or now and then one with its bytes exchanged or with another high byte.
+    fn other_wide(&mut self, number: u16) -> u16 {
+        match self.rng.below(6) {
+            0 => number.swap_bytes(),
+            1 => number ^ 256,
+            _ => number,
+        }
     }
 
     /// A jump's distance: to the code's end, below its start, beside the right one, or any.
-    fn flaw_jump(&mut self, file: &mut [u8], at: usize, ilen: usize) {
-        let size = OPCODES[usize::from(file[at])].kind.size();
-        let distance = at + size - 2;
-        let right = usize::from(file[distance]) * 256 + usize::from(file[distance + 1]);
-        let other = match self.rng.below(4) {
+    fn flaw_jump(&mut self, file: &mut [u8], record: &Record, jump: &Step) {
+        let ilen = record.ilen as usize;
+        let right = jump.target().unwrap_or(0) as usize;
+        let target = match self.rng.below(4) {
             0 => right + 1,
             1 => right.wrapping_sub(1),
-            2 => self.rng.below(ilen + 4).wrapping_sub(ilen / 2),
-            _ => self.rng.pick(&[32_767, 32_768, 65_535, 0]),
+            2 => (jump.next + self.rng.below(ilen + 4)).wrapping_sub(ilen / 2),
+            _ => jump.next + self.rng.pick(&[32_767, 32_768, 65_535, 0]),
         };
-        file[distance..distance + 2].copy_from_slice(&be2(other));
+        lead_jump(file, record, jump, target);
     }
 
     /// A byte of the DBG section, which may be of a position.
@@ -1479,6 +1658,7 @@ impl Maker {
 mod tests {
     use super::*;
     use crate::held::is_string;
+    use std::collections::BTreeSet;
 
     /// A generator with the corpus, where it is there.
     fn generator() -> Generator {
@@ -1494,6 +1674,10 @@ mod tests {
         assert_eq!(jumps, ["JMP", "JMPIF", "JMPNOT", "JMPNIL", "JMPUW"]);
         let names = CHILD_SECOND.map(|opcode| OPCODES[opcode].name);
         assert_eq!(names, ["LAMBDA", "BLOCK", "METHOD", "EXEC"]);
+        let names = WITH_CONSTANT.map(|opcode| OPCODES[opcode].name);
+        assert_eq!(names, ["LOADL", "SYMBOL", "STRING", "ERR"]);
+        let names = WITH_SYMBOL.map(|opcode| OPCODES[opcode].name);
+        assert_eq!(names, ["LOADSYM", "ALIAS", "UNDEF"]);
     }
 
     /// The texts of a file's pool strings, where it loads.
@@ -1547,15 +1731,13 @@ mod tests {
 
     /// Whether an operand of a file is not below its bound, where one opcode has these roles.
     fn meets_17(file: &[u8], rows: &Rows, opcode: usize, other: [Role; 3]) -> bool {
-        all_steps(file, rows).any(|(record, at)| {
-            let number = usize::from(file[at]);
-            let roles = if number == opcode {
+        all_steps(file, rows).any(|(record, step)| {
+            let roles = if step.opcode == opcode {
                 other
             } else {
-                roles(&OPCODES[number])
+                roles(&OPCODES[step.opcode])
             };
-            let operands = model::fetch(&file[at..]).unwrap().operands();
-            let mut held = operands.into_iter().zip(roles);
+            let mut held = step.operands.into_iter().zip(roles);
             held.any(|(operand, role)| bound(role, record).is_some_and(|bound| operand >= bound))
         })
     }
@@ -1600,6 +1782,69 @@ mod tests {
                 sees(opcode, roles);
             }
         }
+    }
+
+    #[test]
+    fn opcodes_and_wide_operands_stand_behind_prefixes() {
+        let files = passing_or_17(12_000).into_iter();
+        let passing = files.filter_map(|(file, rows, refused)| (!refused).then_some((file, rows)));
+        let mut met = BTreeSet::new();
+        let mut wide = BTreeSet::new();
+        for (file, rows) in passing {
+            for (_, step) in all_steps(&file, &rows) {
+                let Some(prefix) = step.prefix else {
+                    continue;
+                };
+                met.insert((prefix, step.opcode));
+                let row = &OPCODES[step.opcode];
+                for (operand, role) in roles(row).into_iter().enumerate() {
+                    let is_wide = widths(step.prefix, row.kind).get(operand) == Some(&2);
+                    if is_wide && step.operands[operand] > 255 {
+                        wide.insert((prefix, operand, format!("{role:?}")));
+                    }
+                }
+            }
+        }
+        assert_eq!(met.len(), PREFIXES.len() * (OPCODES.len() - PREFIXES.len()));
+        for prefix in [116, 117] {
+            for role in ["Register", "Pool", "Symbol", "Child"] {
+                assert!(wide.contains(&(prefix, 1, role.to_owned())), "{role}");
+            }
+        }
+        for prefix in [115, 117] {
+            for role in ["Register", "Symbol"] {
+                assert!(wide.contains(&(prefix, 0, role.to_owned())), "{role}");
+            }
+        }
+    }
+
+    /// Whether a file has a prefix without an opcode, last in its record or before another one.
+    fn stray_prefixes(file: &[u8], rows: &Rows) -> [bool; 2] {
+        let mut stray = [false; 2];
+        for record in &rows.records.rows {
+            let offset = steps(file, record).last().map_or(0, |step| step.next);
+            let code = &file[record.place as usize..][..record.ilen as usize];
+            let rest = &code[offset..];
+            stray[0] |= rest.len() == 1 && model::is_prefix(rest[0]);
+            stray[1] |= rest.len() > 1 && rest[..2].iter().all(|byte| model::is_prefix(*byte));
+        }
+        stray
+    }
+
+    #[test]
+    fn prefixes_are_last_and_before_others() {
+        let generator = generator();
+        let mut met = [0; 2];
+        for index in 0..6_000 {
+            let file = generator.examinable(1, index);
+            let reading = model::read(&file, [usize::MAX; 9]);
+            if reading.end.is_ok() && model::passes(&file, &reading.rows) == Err(25) {
+                let stray = stray_prefixes(&file, &reading.rows);
+                assert_ne!(stray, [false; 2]);
+                met = [met[0] + u32::from(stray[0]), met[1] + u32::from(stray[1])];
+            }
+        }
+        assert!(met.iter().all(|files| *files > 10), "{met:?}");
     }
 
     #[test]

@@ -16,8 +16,10 @@ mod newer;
 mod oracle;
 #[cfg(feature = "port")]
 mod port;
+mod prefixes;
 mod quiet;
 mod rng;
+mod sample;
 mod store;
 mod subject;
 

@@ -1,7 +1,7 @@
 //! Files with opcodes that insn.rs does not comment, and the answers of request c) of paper 02.
 
-use crate::generate::{be2, be4, exact, overwrite, state_size};
-use model::Refusal;
+use crate::sample::{Counts, Examined, FINISHED, Run, STOP};
+use crate::sample::{bare_record, coded, file, record, stands_at};
 
 const GETIDX0: u8 = 36;
 const MATCHERR: u8 = 46;
@@ -12,7 +12,6 @@ const ADDILV: u8 = 73;
 const SUBILV: u8 = 74;
 const TDEF: u8 = 107;
 const SDEF: u8 = 108;
-const STOP: u8 = 118;
 
 /// The opcodes that have roles by request c).
 pub const NEWER: [usize; 5] = [
@@ -25,15 +24,6 @@ pub const NEWER: [usize; 5] = [
 
 /// Those of them whose third operand is a child.
 pub const CHILD_THIRD: [usize; 2] = [TDEF as usize, SDEF as usize];
-
-/// What the operands of a record's instructions are held against.
-#[derive(Clone, Copy)]
-struct Counts {
-    registers: u8,
-    constants: u8,
-    symbols: u8,
-    children: u8,
-}
 
 /// Counts that are all different, of which registers or children are most and constants less or more than symbols.
 const COUNTS: [Counts; 2] = [
@@ -51,53 +41,11 @@ const COUNTS: [Counts; 2] = [
     },
 ];
 
-/// The counts of a record whose code is STOP.
-const BARE: Counts = Counts {
-    registers: 1,
-    constants: 0,
-    symbols: 0,
-    children: 0,
-};
-
 /// The largest operand of one byte, which a plain one may be.
-const LARGEST: u8 = 255;
-
-/// A record with this code and these counts; its constants and symbols are empty texts.
-fn record(code: &[u8], counts: Counts) -> Vec<u8> {
-    let mut record = vec![0; 4];
-    for field in [1, counts.registers, counts.children, 0] {
-        record.extend(be2(field.into()));
-    }
-    record.extend(be4(code.len()));
-    record.extend(code);
-    record.extend(be2(counts.constants.into()));
-    record.extend([2, 0, 0, 0].repeat(counts.constants.into()));
-    record.extend(be2(counts.symbols.into()));
-    record.extend([0, 0, 0].repeat(counts.symbols.into()));
-    let size = record.len();
-    overwrite(&mut record, 0, &be4(size));
-    record
-}
-
-/// A file of these records and nothing else.
-fn file(records: &[Vec<u8>]) -> Vec<u8> {
-    let mut file = b"RITE0400\0\0\0\0\0\0\0\0\0\0\0\0".to_vec();
-    file.extend(exact(b"IREP", &[vec![0; 4], records.concat()].concat()));
-    file.extend(exact(b"END\0", &[]));
-    let size = file.len();
-    state_size(&mut file, size);
-    file
-}
-
-/// A file whose first record has this code and these counts, and its children nothing but STOP.
-fn coded(code: &[u8], counts: Counts) -> Vec<u8> {
-    let mut records = vec![record(code, counts)];
-    records.resize(1 + usize::from(counts.children), record(&[STOP], BARE));
-    file(&records)
-}
+const LARGEST: u16 = 255;
 
 /// The opcodes without a comment that have operands, and what each operand is below; a plain one is below nothing.
-fn limits(counts: Counts) -> [(u8, Vec<Option<u8>>); 9] {
+fn limits(counts: Counts) -> [(u8, Vec<Option<u16>>); 9] {
     let register = Some(counts.registers);
     let symbol = Some(counts.symbols);
     let child = Some(counts.children);
@@ -119,7 +67,7 @@ fn limits(counts: Counts) -> [(u8, Vec<Option<u8>>); 9] {
 }
 
 /// Files with one of these instructions, and the answers of their examination.
-pub fn examined() -> Vec<(Vec<u8>, Refusal)> {
+pub fn examined() -> Vec<Examined> {
     let inside = COUNTS.into_iter().flat_map(|counts| {
         let limits = limits(counts).into_iter();
         limits.flat_map(move |(opcode, limits)| around(opcode, &limits, counts))
@@ -129,23 +77,23 @@ pub fn examined() -> Vec<(Vec<u8>, Refusal)> {
 }
 
 /// Files whose code ends with an opcode that has a child and does not end: 18, and 17 before it.
-fn at_the_end(opcode: u8) -> [(Vec<u8>, Refusal); 2] {
+fn at_the_end(opcode: u8) -> [Examined; 2] {
     let [counts, _] = COUNTS;
-    let with = |child: u8| coded(&[opcode, 0, 0, child], counts);
+    let with = |child: u16| coded(&[opcode, 0, 0, child as u8], counts);
     [(with(counts.children - 1), 18), (with(counts.children), 17)]
 }
 
 /// Files with an instruction whose operands are just below their limits, and with one operand at its limit.
-fn around(opcode: u8, limits: &[Option<u8>], counts: Counts) -> Vec<(Vec<u8>, Refusal)> {
+fn around(opcode: u8, limits: &[Option<u16>], counts: Counts) -> Vec<Examined> {
     let below = limits
         .iter()
-        .map(|limit| limit.map_or(LARGEST, |limit| limit - 1));
+        .map(|limit| limit.map_or(LARGEST, |limit| limit - 1) as u8);
     let code: Vec<u8> = [opcode].into_iter().chain(below).chain([STOP]).collect();
     let mut files = vec![(coded(&code, counts), 0)];
     for (operand, limit) in limits.iter().enumerate() {
         if let Some(limit) = *limit {
             let mut code = code.clone();
-            code[1 + operand] = limit;
+            code[1 + operand] = limit as u8;
             files.push((coded(&code, counts), 17));
         }
     }
@@ -167,24 +115,21 @@ fn nested() -> Vec<u8> {
         children: 1,
     };
     let code = [TDEF, 0, 0, 2, SDEF, 0, 3, 0, SDEF, 0, 2, 1, STOP];
-    let bare = record(&[STOP], BARE);
-    file(&[
-        record(&code, outer),
-        record(&[TDEF, 0, 1, 0, STOP], inner),
+    let bare = bare_record();
+    let records = [
+        record(&code, &[], outer),
+        record(&[TDEF, 0, 1, 0, STOP], &[], inner),
         bare.clone(),
         bare.clone(),
         bare,
-    ])
+    ];
+    file(&records, &[])
 }
-
-/// A list of choices, and what its run answers: finished, record, offset, found, line and frames.
-type Run = (&'static [u8], [u32; 6]);
 
 /// A file with TDEF and SDEF and runs that enter through them: "TDEF and SDEF can be entered like METHOD."
 pub fn followed() -> (Vec<u8>, Vec<Run>) {
-    let at = |record: u32, offset: u32, frames: u32| [0, record, offset, 0, 0, frames];
-    let finished = [1, 0, 0, 0, 0, 0];
-    let runs: Vec<Run> = vec![
+    let at = stands_at;
+    let runs = [
         // TDEF: its child is the last, with number rlen - 1.
         (&[2][..], at(4, 0, 2)),
         (&[2, 0], at(0, 4, 1)),
@@ -199,9 +144,10 @@ pub fn followed() -> (Vec<u8>, Vec<Run>) {
         (&[0, 0, 2], at(3, 0, 2)),
         (&[0, 2, 4, 2], at(3, 0, 2)),
         (&[2, 4, 2, 2, 0, 0, 2], at(3, 0, 2)),
-        (&[0, 0, 2, 4, 2], finished),
+        (&[0, 0, 2, 4, 2], FINISHED),
     ];
-    (nested(), runs)
+    let runs = runs.map(|(choices, answer)| (choices.to_vec(), answer));
+    (nested(), runs.to_vec())
 }
 
 #[cfg(test)]

@@ -38,6 +38,7 @@
 
 use crate::Stop;
 use crate::args::Args;
+use crate::examine::NOT_PASSING;
 use crate::expected;
 use crate::fetch;
 use crate::follow;
@@ -48,7 +49,9 @@ use crate::load::{ANSWERS, Counts, corpus, garbage, one, other_sizes};
 use crate::lookups;
 use crate::newer;
 use crate::oracle::{self, NO_ROW, Outcome, TOO_LONG};
+use crate::prefixes;
 use crate::rng::Rng;
+use crate::sample::{Examined, FINISHED, Run, stands_at};
 use crate::subject::{Answer, Fetch, Follow, Found, LOOKUPS, Lookup, Model, Subject, subjects};
 use model::{FILE_LIMIT, HEADER, OPCODES, Refusal, Sizes, Tables};
 use original::rite::rite::line_at;
@@ -82,6 +85,7 @@ pub fn write(args: &Args) -> Result<(), Stop> {
     let mut calls = Store::default();
     samples(&mut calls).map_err(Stop::Difference)?;
     newer_samples(&mut calls).map_err(Stop::Difference)?;
+    prefix_samples(&mut calls).map_err(Stop::Difference)?;
     loads(&mut calls, seed, count as usize, &mut counts).map_err(Stop::Difference)?;
     examinable_files(&mut calls, seed)?;
     let mut lookups = Store::default();
@@ -204,8 +208,8 @@ fn samples(store: &mut Store) -> Result<(), String> {
     text_samples(store)?;
     sample(store, 7, &end_alone(12), 15, [0; 9])?;
     sample(store, 7, &jump, 18, [0; 9])?;
-    sample_run(store, &a, &[0], [0, 0, 2, 0, 0, 1])?;
-    sample_run(store, &a, &[0, 0], [1, 0, 0, 0, 0, 0])?;
+    let runs = [(vec![0], stands_at(0, 2, 1)), (vec![0, 0], FINISHED)];
+    sample_runs(store, &a, &runs)?;
     store.bytes(6, b"samples of the papers");
     Ok(())
 }
@@ -315,19 +319,36 @@ fn of_records(records: u32) -> [u32; 9] {
 
 /// Files with the newer opcodes, examined and followed, with the answers of request c).
 fn newer_samples(store: &mut Store) -> Result<(), String> {
-    for (file, refusal) in newer::examined() {
-        let used = model::read(&file, [usize::MAX; 9]).rows.used();
+    sample_examinations(store, &newer::examined())?;
+    let (file, runs) = newer::followed();
+    sample_runs(store, &file, &runs)?;
+    store.bytes(6, b"newer opcodes, examined and followed");
+    Ok(())
+}
+
+/// Files with instructions behind prefixes, with the answers of request b).
+fn prefix_samples(store: &mut Store) -> Result<(), String> {
+    for group in prefixes::groups() {
+        let wrong = |why: String| format!("{}: {why}", group.name);
+        sample_examinations(store, &group.examined).map_err(wrong)?;
+        for (file, runs) in &group.followed {
+            sample_runs(store, file, runs).map_err(wrong)?;
+        }
+        store.bytes(6, group.name.as_bytes());
+    }
+    Ok(())
+}
+
+/// Examinations of files over tables that fit them.
+fn sample_examinations(store: &mut Store, files: &[Examined]) -> Result<(), String> {
+    for (file, refusal) in files {
+        let used = model::read(file, [usize::MAX; 9]).rows.used();
         let rows = match refusal {
             0 => used.map(|rows| rows as u32),
             _ => [0; 9],
         };
-        sample_over(store, 7, &Sizes::of_rows(used), &file, refusal, rows)?;
+        sample_over(store, 7, &Sizes::of_rows(used), file, *refusal, rows)?;
     }
-    let (file, runs) = newer::followed();
-    for (choices, numbers) in runs {
-        sample_run(store, &file, choices, numbers)?;
-    }
-    store.bytes(6, b"newer opcodes, examined and followed");
     Ok(())
 }
 
@@ -351,6 +372,7 @@ fn sample_over(
     refusal: u32,
     rows: [u32; 9],
 ) -> Result<(), String> {
+    replayable(sizes)?;
     let mut tables = garbage(sizes, &mut Rng::new(0, 0));
     let answer = match kind {
         2 => Model.load(file, &mut tables),
@@ -364,23 +386,21 @@ fn sample_over(
     Ok(())
 }
 
-/// A run that is not refused, over tables of a row at least and with place for a frame of each record.
-fn sample_run(
-    store: &mut Store,
-    file: &[u8],
-    choices: &[u8],
-    numbers: [u32; 6],
-) -> Result<(), String> {
+/// Runs of a file that are not refused, over tables of a row at least and with place for a frame of each record.
+fn sample_runs(store: &mut Store, file: &[u8], runs: &[Run]) -> Result<(), String> {
     let used = model::read(file, [usize::MAX; 9]).rows.used();
     let sizes = Sizes::of_rows(used.map(|rows| rows.max(1)));
-    let mut tables = garbage(&sizes, &mut Rng::new(0, 0));
-    let mut frames = vec![1; 2 * used[RECORDS]];
-    let answer = Model.follow(file, &mut tables, &mut frames, choices);
-    if (answer.refusal, answer.numbers) != (0, numbers) {
-        return Err(format!("a sample's answer is {answer:?}"));
-    }
+    replayable(&sizes)?;
     store.bytes(1, file);
-    store.follow(&sizes, &answer, &tables, &frames, choices);
+    for (choices, numbers) in runs {
+        let mut tables = garbage(&sizes, &mut Rng::new(0, 0));
+        let mut frames = vec![1; 2 * used[RECORDS]];
+        let answer = Model.follow(file, &mut tables, &mut frames, choices);
+        if (answer.refusal, answer.numbers) != (0, *numbers) {
+            return Err(format!("along {choices:?} a sample's answer is {answer:?}"));
+        }
+        store.follow(&sizes, &answer, &tables, &frames, choices);
+    }
     Ok(())
 }
 
@@ -554,7 +574,7 @@ fn runs(store: &mut Store, file: &[u8], number: usize, rng: &mut Rng) -> Result<
 /// Generated files by the examination's answer, with runs of those that pass.
 fn examinable_files(store: &mut Store, seed: u64) -> Result<(), Stop> {
     let generator = Generator { corpus: Vec::new() };
-    for number in [0, 15, 16, 17, 18, 19, 20] {
+    for number in [0].into_iter().chain(NOT_PASSING) {
         let mut left = if number == 0 { 20 } else { 8 };
         for index in 0.. {
             if left == 0 {

@@ -1,7 +1,7 @@
-//! Examination: 15 over the tree, then 16 to 20 record by record.
+//! Examination: 15 over the tree, then 16 to 20 and 25 record by record.
 
 use crate::Refusal;
-use crate::insn::{Flow, OPCODES, Role, fetch, flow, roles};
+use crate::insn::{Flow, OPCODES, Role, flow, is_prefix, roles};
 use crate::load::read;
 use crate::rows::{Loaded, Record, Rows, Sizes};
 
@@ -14,7 +14,7 @@ pub fn examine(file: &[u8], lent: &Sizes) -> Loaded {
     }
 }
 
-/// Examines a loaded file; a file that passes "meets none of 15 to 20".
+/// Examines a loaded file; "Passing then means meeting none of 15 to 20 and 25."
 pub fn passes(file: &[u8], rows: &Rows) -> Result<(), Refusal> {
     let records = &rows.records.rows;
     let rlens: Vec<u32> = records.iter().map(|r| r.rlen).collect();
@@ -64,11 +64,15 @@ pub fn bound(role: Role, record: &Record) -> Option<u32> {
     }
 }
 
-/// An instruction of a record.
-#[derive(Debug, Clone, Copy)]
-pub(crate) struct Step {
+/// An instruction of a record; "The instruction then begins at its prefix".
+#[derive(Debug, Clone, Copy, PartialEq, Eq)]
+pub struct Step {
+    /// The offset of the prefix, or of the opcode where there is none.
     pub offset: usize,
+    pub prefix: Option<u8>,
+    /// The opcode, which stands behind the prefix.
     pub opcode: usize,
+    /// The operands in turn, 0 where there is none.
     pub operands: [u32; 3],
     pub next: usize,
 }
@@ -97,20 +101,43 @@ impl Step {
     }
 }
 
-/// The instruction at an offset, or 16.
-pub(crate) fn step_at(code: &[u8], offset: usize) -> Result<Step, Refusal> {
-    let fetched = fetch(&code[offset..]).map_err(|_| 16u32)?;
-    let opcode = usize::from(code[offset]);
-    // "a prefix opcode (115 to 117)"
-    if (115..=117).contains(&opcode) {
-        return Err(16);
+/// The instruction at an offset, or 25 in 16's place, or 16.
+pub fn step_at(code: &[u8], offset: usize) -> Result<Step, Refusal> {
+    let prefix = prefix_at(code, offset)?;
+    let behind = offset + usize::from(prefix.is_some());
+    let opcode = usize::from(*code.get(behind).ok_or(16u32)?);
+    let kind = OPCODES.get(opcode).ok_or(16u32)?.kind;
+    let mut operands = [0; 3];
+    let mut next = behind + 1;
+    for (operand, width) in operands.iter_mut().zip(kind.widths(prefix)) {
+        let bytes = code.get(next..next + width).ok_or(16u32)?;
+        *operand = high_byte_first(bytes);
+        next += width;
     }
     Ok(Step {
         offset,
+        prefix,
         opcode,
-        operands: fetched.operands(),
-        next: offset + fetched.kind().size(),
+        operands,
+        next,
     })
+}
+
+/// The prefix at an offset, if one stands there; "25 when a prefix is last in its record or another prefix follows it".
+fn prefix_at(code: &[u8], offset: usize) -> Result<Option<u8>, Refusal> {
+    let Some(prefix) = code.get(offset).copied().filter(|byte| is_prefix(*byte)) else {
+        return Ok(None);
+    };
+    match code.get(offset + 1) {
+        None => Err(25),
+        Some(behind) if is_prefix(*behind) => Err(25),
+        Some(_) => Ok(Some(prefix)),
+    }
+}
+
+/// The number of these bytes.
+fn high_byte_first(bytes: &[u8]) -> u32 {
+    bytes.iter().fold(0, |n, byte| n * 256 + u32::from(*byte))
 }
 
 /// "an instruction begins at 0, and at each next offset that reading from 0 reaches, while below ilen"

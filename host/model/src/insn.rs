@@ -1,4 +1,4 @@
-//! Opcodes: operand kinds, fetch, roles and flow.
+//! Opcodes: operand kinds, prefixes, fetch, roles and flow.
 
 use crate::Refusal;
 
@@ -29,6 +29,54 @@ impl Kind {
             Kind::BSS => 6,
         }
     }
+
+    /// How many bytes each operand has behind a prefix, or without one.
+    pub fn widths(self, prefix: Option<u8>) -> Vec<usize> {
+        let mut widths = self.own_widths().to_vec();
+        if prefix.is_some_and(|prefix| widens_first(prefix, self)) {
+            widths[0] = 2;
+        }
+        if prefix.is_some_and(|prefix| widens_second(prefix, self)) {
+            widths[1] = 2;
+        }
+        widths
+    }
+
+    /// How many bytes each operand has without a prefix; "Other operands are unchanged."
+    fn own_widths(self) -> &'static [usize] {
+        match self {
+            Kind::Z => &[],
+            Kind::B => &[1],
+            Kind::BB => &[1, 1],
+            Kind::S => &[2],
+            Kind::BBB => &[1, 1, 1],
+            Kind::BS => &[1, 2],
+            Kind::W => &[3],
+            Kind::BSS => &[1, 2, 2],
+        }
+    }
+}
+
+/// The prefixes by their names in insn.rs.
+const EXT1: u8 = 115;
+const EXT2: u8 = 116;
+const EXT3: u8 = 117;
+
+/// "a prefix opcode (115 to 117)"
+pub fn is_prefix(byte: u8) -> bool {
+    (EXT1..=EXT3).contains(&byte)
+}
+
+/// "Prefix 115 widens the first operand of B, BB, BBB, BS and BSS to two bytes", and "117 does both".
+fn widens_first(prefix: u8, kind: Kind) -> bool {
+    let has_it = matches!(kind, Kind::B | Kind::BB | Kind::BBB | Kind::BS | Kind::BSS);
+    has_it && matches!(prefix, EXT1 | EXT3)
+}
+
+/// "Prefix 116 widens the second of BB and BBB", and "117 does both, each where the kind has it."
+fn widens_second(prefix: u8, kind: Kind) -> bool {
+    let has_it = matches!(kind, Kind::BB | Kind::BBB);
+    has_it && matches!(prefix, EXT2 | EXT3)
 }
 
 /// A fetched instruction's operands.
@@ -73,7 +121,7 @@ impl Fetched {
     }
 }
 
-/// The instruction at the first byte; "Fetch: empty is 24, then 23, then 24."
+/// The instruction at the first byte, a prefix by itself; "Fetch: empty is 24, then 23, then 24."
 pub fn fetch(code: &[u8]) -> Result<Fetched, Refusal> {
     let Some(byte) = code.first() else {
         return Err(24);

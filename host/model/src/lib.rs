@@ -1,4 +1,4 @@
-//! Paper 01 and requests c), d) and g) of paper 02 as plain Rust: slow, readable, without any `unsafe`. Opcode names and operand kinds are those of insn.rs.
+//! Paper 01 and requests b), c), d) and g) of paper 02 as plain Rust: slow, readable, without any `unsafe`. Opcode names and operand kinds are those of insn.rs.
 //!
 //! Comments in quotation marks are the papers' own words.
 //! A refusal is its number; 0 stands for none where a number is answered.
@@ -13,9 +13,9 @@ mod load;
 mod lookup;
 mod rows;
 
-pub use examine::{bound, child, examine, is_whole, passes};
+pub use examine::{Step, bound, child, examine, is_whole, passes, step_at};
 pub use follow::{Choice, Followed, choices, follow};
-pub use insn::{Fetched, Flow, Kind, OPCODES, Opcode, Role, fetch, flow, roles};
+pub use insn::{Fetched, Flow, Kind, OPCODES, Opcode, Role, fetch, flow, is_prefix, roles};
 pub use line::{Packed, line_at, packed};
 pub use load::{Reading, load, read};
 pub use lookup::{

@@ -225,8 +225,6 @@ fn instructions_that_do_not_pass() {
     for (code, number) in [
         (&[][..], 16),
         (&[119], 16),
-        (&[115, 118], 16),
-        (&[117], 16),
         (&[1, 0], 16),
         (&[118, 1, 0], 16),
         (&[1, 0, 2, 118], 17),
@@ -249,6 +247,150 @@ fn instructions_that_do_not_pass() {
         (&[1, 9, 9, 38, 0, 9], 17),
         (&[118, 1, 9, 9], 17),
         (&[3, 0, 255, 118], 0),
+    ] {
+        assert_eq!(examined(&coded(code)), number, "{code:?}");
+    }
+}
+
+/// The instruction at the first byte.
+fn step(code: &[u8]) -> Result<Step, Refusal> {
+    step_at(code, 0)
+}
+
+#[test]
+fn an_instruction_without_a_prefix_is_what_is_fetched() {
+    for first in (0..=255).filter(|first| !is_prefix(*first)) {
+        for length in 1..9 {
+            let code = [&[first][..], &[1, 2, 3, 4, 5, 6, 7, 8][..length - 1]].concat();
+            let fetched = fetch(&code).map(|fetched| Step {
+                offset: 0,
+                prefix: None,
+                opcode: usize::from(first),
+                operands: fetched.operands(),
+                next: fetched.kind().size(),
+            });
+            assert_eq!(step(&code), fetched.map_err(|_| 16), "{code:?}");
+        }
+    }
+}
+
+#[test]
+fn prefixes_widen_operands() {
+    // An opcode of each kind, and the operands behind 115, 116 and 117 from the bytes 1, 2, 3 and so on.
+    for (opcode, operands, sizes) in [
+        (118, [[0; 3]; 3], [2, 2, 2]),
+        (6, [[0x0102, 0, 0], [1, 0, 0], [0x0102, 0, 0]], [4, 3, 4]),
+        (
+            1,
+            [[0x0102, 3, 0], [1, 0x0203, 0], [0x0102, 0x0304, 0]],
+            [5, 5, 6],
+        ),
+        (38, [[0x0102, 0, 0]; 3], [4, 4, 4]),
+        (
+            50,
+            [[0x0102, 3, 4], [1, 0x0203, 4], [0x0102, 0x0304, 5]],
+            [6, 6, 7],
+        ),
+        (
+            39,
+            [[0x0102, 0x0304, 0], [1, 0x0203, 0], [0x0102, 0x0304, 0]],
+            [6, 5, 6],
+        ),
+        (57, [[0x0001_0203, 0, 0]; 3], [5, 5, 5]),
+        (
+            15,
+            [
+                [0x0102, 0x0304, 0x0506],
+                [1, 0x0203, 0x0405],
+                [0x0102, 0x0304, 0x0506],
+            ],
+            [8, 7, 8],
+        ),
+    ] {
+        for ((prefix, operands), size) in (115..).zip(operands).zip(sizes) {
+            let code = [prefix, opcode, 1, 2, 3, 4, 5, 6];
+            let right = Step {
+                offset: 0,
+                prefix: Some(prefix),
+                opcode: usize::from(opcode),
+                operands,
+                next: size,
+            };
+            assert_eq!(step(&code), Ok(right));
+            assert_eq!(step(&code[..size]), Ok(right));
+            let cut = if size == 2 { 25 } else { 16 };
+            assert_eq!(step(&code[..size - 1]), Err(cut));
+        }
+    }
+}
+
+#[test]
+fn prefixes_that_do_not_pass() {
+    for prefix in 115..=117 {
+        for (code, number) in [
+            (&[prefix][..], 25),
+            (&[118, prefix], 25),
+            (&[prefix, 115, 118], 25),
+            (&[prefix, 116, 118], 25),
+            (&[prefix, 117, 118], 25),
+            (&[prefix, 119], 16),
+            (&[prefix, 255], 16),
+            (&[prefix, 1, 0, 0], 16),
+            (&[prefix, 118], 0),
+            (&[prefix, 0], 18),
+            // An operand is no prefix.
+            (&[3, 1, prefix, 118], 0),
+            // "in 16's place": whichever is met first.
+            (&[119, prefix], 16),
+            (&[118, prefix, 119], 16),
+            (&[118, prefix, prefix, 119], 25),
+            // It is met before 17 and 18 of the same record.
+            (&[1, 9, 9, 118, prefix], 25),
+            (&[38, 0, 9, prefix], 25),
+        ] {
+            assert_eq!(examined(&coded(code)), number, "{code:?}");
+        }
+    }
+}
+
+#[test]
+fn wide_operands_have_roles() {
+    for (code, number) in [
+        (&[115, 1, 0, 1, 1, 118][..], 0),
+        (&[115, 1, 0, 2, 1, 118], 17),
+        (&[115, 1, 1, 0, 1, 118], 17),
+        (&[116, 1, 1, 0, 1, 118], 0),
+        (&[116, 1, 1, 1, 0, 118], 17),
+        (&[117, 1, 0, 1, 0, 1, 118], 0),
+        (&[117, 1, 0, 1, 1, 1, 118], 17),
+        (&[116, 2, 0, 0, 1, 118], 0),
+        (&[116, 2, 0, 0, 2, 118], 17),
+        (&[117, 16, 0, 0, 0, 0, 118], 0),
+        (&[117, 16, 0, 0, 1, 0, 118], 17),
+        (&[115, 114, 0, 1], 0),
+        (&[115, 114, 1, 0], 17),
+        (&[117, 113, 255, 255, 255, 255, 255, 118], 0),
+        (&[116, 3, 0, 255, 255, 118], 0),
+    ] {
+        assert_eq!(examined(&coded(code)), number, "{code:?}");
+    }
+}
+
+#[test]
+fn jumps_behind_prefixes() {
+    for (code, number) in [
+        // "a jump to the opcode behind it meets 18"
+        (&[38, 0, 0, 115, 118][..], 0),
+        (&[38, 0, 1, 115, 118], 18),
+        // The next offset is behind prefix and operands.
+        (&[115, 38, 255, 252], 0),
+        (&[115, 38, 255, 253], 18),
+        (&[116, 38, 0, 0, 118], 0),
+        (&[116, 39, 1, 255, 251, 118], 0),
+        (&[115, 39, 0, 1, 255, 250, 118], 0),
+        (&[117, 39, 0, 1, 255, 250, 118], 0),
+        (&[117, 39, 0, 1, 255, 251, 118], 18),
+        (&[115, 39, 0, 1, 0, 0], 18),
     ] {
         assert_eq!(examined(&coded(code)), number, "{code:?}");
     }
@@ -338,6 +480,17 @@ fn whole_trees() {
     assert!(is_whole(&[2, 1, 0, 0]));
     assert_eq!(child(&[2, 1, 0, 0], 0, 0), 1);
     assert_eq!(child(&[2, 1, 0, 0], 0, 1), 3);
+}
+
+#[test]
+fn handlers_at_prefixes() {
+    let code = [115, 6, 0, 1, 118];
+    for target in 0..6 {
+        let handler = [0, 0, 0, target];
+        let file = file(&[irep(&[record([1, 2, 0], &code, &[handler], &[], &[])])]);
+        let number = if [0, 4].contains(&target) { 0 } else { 19 };
+        assert_eq!(examined(&file), number, "{target}");
+    }
 }
 
 #[test]
@@ -817,6 +970,66 @@ fn frames_of_tdef_and_sdef() {
     assert_eq!(frames(&[0, 2, 2, 4]), [0, 8, 1, 4]);
     assert_eq!(frames(&[2, 4, 2, 0]), [0, 8, 1, 4]);
     assert_eq!(frames(&[0, 0, 2]), []);
+}
+
+#[test]
+fn frames_behind_prefixes() {
+    let outer = record(
+        [1, 2, 2],
+        // BLOCK with child 1, JMPNOT back to it, LOADI_0, STOP.
+        &[
+            116, 98, 0, 0, 1, 115, 40, 0, 1, 255, 245, 117, 6, 0, 1, 115, 118,
+        ],
+        &[[0, 0, 0, 11]],
+        &[],
+        &[],
+    );
+    let middle = record([1, 2, 1], &[117, 99, 0, 0, 0, 0, 118], &[], &[], &[]);
+    let inner = record([1, 2, 0], &[117, 118], &[], &[], &[]);
+    let last = record([1, 2, 0], &[116, 0, 116, 118], &[], &[], &[]);
+    let file = file(&[irep(&[outer, middle, inner, last])]);
+    let frames = |choices: &[u8]| frames_after(&file, choices);
+    assert_eq!(frames(&[0]), [0, 5]);
+    assert_eq!(frames(&[1]), [0, 5]);
+    assert_eq!(frames(&[2]), [0, 5, 3, 0]);
+    assert_eq!(frames(&[2, 0]), [0, 5, 3, 2]);
+    assert_eq!(frames(&[2, 2, 0]), [0, 5]);
+    assert_eq!(frames(&[2, 4]), [0, 5]);
+    assert_eq!(frames(&[0, 0]), [0, 11]);
+    assert_eq!(frames(&[0, 1]), [0, 0]);
+    assert_eq!(frames(&[0, 2]), [0, 11]);
+    assert_eq!(frames(&[0, 3, 0, 0]), [0, 11]);
+    assert_eq!(frames(&[0, 3, 0, 1]), [0, 11]);
+    assert_eq!(frames(&[0, 0, 0]), [0, 15]);
+    assert_eq!(frames(&[0, 0, 0, 0]), []);
+    assert_eq!(frames(&[0, 0, 4]), []);
+}
+
+/// A file whose first record has 300 children, the second of them with a child of its own.
+fn with_300_children(code: &[u8]) -> Vec<u8> {
+    let stop = record([1, 1, 0], &[118], &[], &[], &[]);
+    let mut records = vec![stop; 302];
+    records[0] = record([1, 1, 300], code, &[], &[], &[]);
+    records[2] = record([1, 1, 1], &[118], &[], &[], &[]);
+    file(&[irep(&records)])
+}
+
+#[test]
+fn children_above_255() {
+    let lent = Sizes::of_rows([302; 9]);
+    for (child, record) in [(1, 2), (2, 4), (255, 257), (256, 258), (299, 301)] {
+        let [high, low] = be2(child);
+        for code in [
+            [116, 97, 0, high, low, 118].to_vec(),
+            [117, 105, 0, 0, high, low, 118].to_vec(),
+        ] {
+            let followed = follow(&with_300_children(&code), &lent, 604, &[2]);
+            assert_eq!(followed.loaded.refusal, 0);
+            assert_eq!(followed.top, Some((record, 0)), "{code:?}");
+        }
+    }
+    let past = with_300_children(&[116, 97, 0, 1, 44, 118]);
+    assert_eq!(examine(&past, &lent).refusal, 17);
 }
 
 /// The refusal of a file over enough rows, but for one table without any.

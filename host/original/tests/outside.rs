@@ -1,7 +1,7 @@
-//! What the original does where the papers leave it: refusals 1, 6, 13, 14, 27 and 28, two kinds of constants, and fetch above 118.
+//! What the original does where the papers leave it: refusals 1, 6, 13, 14, 27 and 28, two kinds of constants, prefixes, and fetch above 118.
 
 use original::Error;
-use original::rite::insn::FETCH_TABLE;
+use original::rite::insn::{FETCH_TABLE, Fetched};
 use original::rite::rite::{PoolValue, Rite, load};
 use std::panic::catch_unwind;
 
@@ -146,6 +146,17 @@ fn reads_past_the_end_panic_or_are_errors() {
     assert_eq!(ends(end).unwrap(), "General");
     let dbg = file(&[bare, b"DBG\0\0\0\0\x0b\0\0".to_vec()]);
     assert_eq!(ends(dbg).unwrap(), "TooShort");
+}
+
+#[test]
+fn a_prefix_is_fetched_by_itself() {
+    for prefix in 115..=117 {
+        let code = [prefix, 1, 0, 0, 0, 0];
+        let mut rest = &code[..];
+        let fetched = FETCH_TABLE[usize::from(prefix)](&mut rest);
+        assert!(matches!(fetched, Ok(Fetched::Z)));
+        assert_eq!(rest, &code[1..]);
+    }
 }
 
 #[test]
