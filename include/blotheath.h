@@ -33,7 +33,7 @@
    14  a row that is needed has no place in its lent table, or is behind the 1,024th record; in blotheath_follow also fewer rows of frames than
        the file has records
    15  the records are not one whole tree by their numbers of children
-   16  in a record, an opcode above 118, a prefix opcode (115 to 117), a cut instruction, or no instruction at all
+   16  in a record, an opcode above 118 or a cut instruction, behind a prefix or not, or no instruction at all
    17  an operand is not below the registers, constants, symbols or children that its record has
    18  a jump, or the next step, goes to where no instruction begins
    19  a handler's target is where no instruction begins
@@ -42,10 +42,11 @@
    22  a lookup's record or index has no row, its row points outside the file or its table, or a constant's kind or length is unknown
    23  fetch: the opcode is above 118
    24  fetch: too few bytes
+   25  in a record, a prefix opcode (115 to 117) is the last byte, or another prefix opcode follows it
    27  the file is no compiled pattern: its first four bytes are not RITE
    28  the file is cut short: it has fewer bytes than its header states
-   A load refuses by 1 to 14, 27 and 28, an examination by 1 to 20, 27 and 28, follow by 1 to 21, 27 and 28, lookups by 22, fetch by 23 and 24. 1,
-   2, 27, 28, 3 and 4 are tested in this order; 5 to 14 are met where reading forward meets them; the others stand with their calls. */
+   A load refuses by 1 to 14, 27 and 28, an examination by 1 to 20, 25, 27 and 28, follow by 1 to 21, 25, 27 and 28, lookups by 22, fetch by 23 and
+   24. 1, 2, 27, 28, 3 and 4 are tested in this order; 5 to 14 are met where reading forward meets them; the others stand with their calls. */
 #ifndef BLOTHEATH_H
 #define BLOTHEATH_H
 
@@ -151,8 +152,15 @@ BlotheathLoaded blotheath_load_records(const uint8_t *file, size_t file_len,
                                        uint32_t *lines, size_t lines_len,
                                        BlotheathRecord *rows, size_t rows_len);
 
-/* Examines a file: loads it as above, then tests it: 15 first, then record by record 16, 17 and 18 at each instruction in turn, 19, 20. The answer
-   and the tables are those of a load; after a refusal every table is zero throughout. */
+/* Examines a file: loads it as above, then tests it: 15 first, then record by record 16 and 25 in one reading of its instructions, 17 and 18 at each
+   instruction in turn, 19, 20. A file that loads passes where it meets none of 15 to 20 and 25. The answer and the tables are those of a load; after
+   a refusal every table is zero throughout.
+
+   Instructions. The first one of a record begins at offset 0, and each begins where the one before it ends. An instruction is its opcode and
+   operands, of the kinds that stand with blotheath_fetch, or a prefix opcode and these behind it; it begins at its prefix. 115 widens the first
+   operand of B, BB, BBB, BS and BSS to two bytes, high byte first, 116 the second of BB and BBB, 117 both, each where the kind has it. What a prefix
+   does not widen stays as it is, the operands of S and W among them. A jump counts from the end of its instruction. The opcode behind a prefix is
+   no place where an instruction begins: a jump there is 18, a handler's target 19. */
 BlotheathLoaded blotheath_examine(const uint8_t *file, size_t file_len,
                                   uint32_t *records, size_t records_len,
                                   uint32_t *handlers, size_t handlers_len,
@@ -164,8 +172,9 @@ BlotheathLoaded blotheath_examine(const uint8_t *file, size_t file_len,
                                   uint32_t *files, size_t files_len,
                                   uint32_t *lines, size_t lines_len);
 
-/* Where a run stands. refusal: 0, or one of 1 to 21, 27 and 28. finished: 1 where the run is finished, and then all else is 0. Else the top
-   frame's record and offset, its line where found is 1, and the number of frames. */
+/* Where a run stands. refusal: 0, or one of 1 to 21, 25, 27 and 28. finished: 1 where the run is finished, and then all else is 0. Else the top
+   frame's record and offset, its line where found is 1, and the number of frames. The offset is where an instruction begins, at its prefix where it
+   has one. */
 typedef struct {
     uint32_t refusal;
     uint32_t finished;
@@ -179,8 +188,8 @@ typedef struct {
 /* Follows the run of a file along choices: loads it, tests that the frame table has as many rows as the file has records (14), examines it, reads
    all choices (21), then runs from the first record's start. A choice is a byte: 0 go on, 1 jump, 2 enter the child that an operand names (the
    second of LAMBDA, BLOCK, METHOD and EXEC, the third of TDEF and SDEF), 3 caught by handler h (two more bytes, high byte first), 4 leave; one
-   that is not open is go on. The frame table has rows of two words, record and offset: the frames, lowest first, then zeros. After a refusal
-   every table, frames too, is zero throughout. */
+   that is not open is go on. Behind a prefix an opcode does what it does without one. The frame table has rows of two words, record and offset: the
+   frames, lowest first, then zeros. After a refusal every table, frames too, is zero throughout. */
 BlotheathFollowed blotheath_follow(const uint8_t *file, size_t file_len,
                                    uint32_t *records, size_t records_len,
                                    uint32_t *handlers, size_t handlers_len,
@@ -284,7 +293,8 @@ typedef struct {
     uint32_t c;
 } BlotheathFetched;
 
-/* The instruction at the start of these bytes; more bytes than it needs are ignored. */
+/* The instruction at the start of these bytes; more bytes than it needs are ignored. A prefix opcode is fetched by itself, of kind Z: the opcode
+   behind it is the next byte, and a caller reads the operands that the prefix widens. */
 BlotheathFetched blotheath_fetch(const uint8_t *code, size_t code_len);
 
 /* A line, where found is 1; where it is 0 the position has none. */

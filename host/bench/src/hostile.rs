@@ -39,6 +39,78 @@ pub fn files() -> Vec<(&'static str, Vec<u8>)> {
             "the same: two kinds of jumps in random order",
             shared_code(&[JMP, JMPNOT]),
         ),
+        ("the same: EXT1 and NOP", shared_code(&[EXT1_NOP])),
+        (
+            "the same: a prefix and NOP, the three prefixes in turn",
+            shared_in_turn(&[EXT1_NOP, EXT2_NOP, EXT3_NOP]),
+        ),
+        (
+            "the same: a prefix and NOP, the three prefixes in random order",
+            shared_code(&[EXT1_NOP, EXT2_NOP, EXT3_NOP]),
+        ),
+        (
+            "the same: NOP, or EXT1 and NOP, in random order",
+            shared_code(&[NOP, EXT1_NOP]),
+        ),
+        (
+            "the same: NOP, or one of three prefixes and NOP, in random order",
+            shared_code(&[NOP, NOP, NOP, EXT1_NOP, EXT2_NOP, EXT3_NOP]),
+        ),
+        (
+            "the same: sizes 1 and 2, or these behind one of three prefixes, in random order",
+            shared_code(&[
+                KEYEND,
+                LOADNIL,
+                KEYEND.behind(EXT1, 0),
+                LOADNIL.behind(EXT2, 0),
+                LOADNIL.behind(EXT3, 1),
+            ]),
+        ),
+        (
+            "the same: size 2, or EXT1 and a wide operand, in random order",
+            shared_code(&[LOADNIL, LOADNIL.behind(EXT1, 1)]),
+        ),
+        (
+            "the same: EXT3 and two wide operands",
+            shared_code(&[MOVE.behind(EXT3, 2)]),
+        ),
+        (
+            "the same: EXT3 and two wide operands, all three operands tested",
+            shared_definitions(&[TDEF.behind(EXT3, 2), SDEF.behind(EXT3, 2)]),
+        ),
+        (
+            "the same: wide operands of B, BB, BBB, BS and BSS in random order",
+            shared_code(&WIDE),
+        ),
+        (
+            "the same: Z, B and BB behind one of three prefixes in random order",
+            shared_code(&PREFIXED),
+        ),
+        (
+            "the same: sizes 1 to 3, and prefixed ones, in random order",
+            shared_code(&[
+                NOP,
+                KEYEND,
+                LOADNIL,
+                MOVE,
+                EXT1_NOP,
+                EXT2_NOP,
+                LOADNIL.behind(EXT2, 0),
+                LOADNIL.behind(EXT3, 1),
+            ]),
+        ),
+        (
+            "the same: EXT1 and jumps",
+            shared_code(&[JMP.behind(EXT1, 0)]),
+        ),
+        (
+            "the same: two kinds of jumps, half of them behind EXT1, in random order",
+            shared_code(&[JMP, JMPNOT, JMP.behind(EXT1, 0), JMPNOT.behind(EXT1, 1)]),
+        ),
+        (
+            "the same: NOP and jumps, two to one, half of them behind EXT1, in random order",
+            shared_code(&[NOP, NOP, JMP, EXT1_NOP, EXT1_NOP, JMP.behind(EXT1, 0)]),
+        ),
         (
             "1,024 records that share a constant's text",
             shared_constants(&long_constant()),
@@ -75,15 +147,29 @@ fn head(size: u32, nlocals: u16, nregs: u16, rlen: u16, clen: u16, ilen: usize) 
     head
 }
 
-/// An instruction: its opcode, how many bytes it has, and whether it jumps.
+/// An instruction: its prefix and its opcode, how many bytes it has, and whether it jumps.
+#[derive(Clone, Copy)]
 struct Kind {
+    prefix: Option<u8>,
     opcode: u8,
     size: usize,
     jumps: bool,
 }
 
+impl Kind {
+    /// The same behind a prefix that widens so many of its operands.
+    const fn behind(self, prefix: u8, widened: usize) -> Kind {
+        Kind {
+            prefix: Some(prefix),
+            size: self.size + 1 + widened,
+            ..self
+        }
+    }
+}
+
 const fn kind(opcode: u8, size: usize) -> Kind {
     Kind {
+        prefix: None,
         opcode,
         size,
         jumps: false,
@@ -92,9 +178,8 @@ const fn kind(opcode: u8, size: usize) -> Kind {
 
 const fn jump(opcode: u8, size: usize) -> Kind {
     Kind {
-        opcode,
-        size,
         jumps: true,
+        ..kind(opcode, size)
     }
 }
 
@@ -108,8 +193,48 @@ const GETUPVAR: Kind = kind(33, 4);
 const AREF: Kind = kind(87, 4);
 const TDEF: Kind = kind(107, 4);
 const SDEF: Kind = kind(108, 4);
+const LOADI16: Kind = kind(14, 4);
+const LOADI32: Kind = kind(15, 6);
 const JMP: Kind = jump(38, 3);
 const JMPNOT: Kind = jump(40, 4);
+
+/// The prefixes: they widen a first operand, a second, both.
+const EXT1: u8 = 115;
+const EXT2: u8 = 116;
+const EXT3: u8 = 117;
+
+const EXT1_NOP: Kind = NOP.behind(EXT1, 0);
+const EXT2_NOP: Kind = NOP.behind(EXT2, 0);
+const EXT3_NOP: Kind = NOP.behind(EXT3, 0);
+
+/// Every kind of operands that a prefix widens, behind each prefix that does.
+const WIDE: [Kind; 12] = [
+    LOADNIL.behind(EXT1, 1),
+    LOADNIL.behind(EXT3, 1),
+    MOVE.behind(EXT1, 1),
+    MOVE.behind(EXT2, 1),
+    MOVE.behind(EXT3, 2),
+    AREF.behind(EXT1, 1),
+    AREF.behind(EXT2, 1),
+    AREF.behind(EXT3, 2),
+    LOADI16.behind(EXT1, 1),
+    LOADI16.behind(EXT3, 1),
+    LOADI32.behind(EXT1, 1),
+    LOADI32.behind(EXT3, 1),
+];
+
+/// None, one and two operands of one byte behind each prefix.
+const PREFIXED: [Kind; 9] = [
+    EXT1_NOP,
+    EXT2_NOP,
+    EXT3_NOP,
+    LOADNIL.behind(EXT1, 1),
+    LOADNIL.behind(EXT2, 0),
+    LOADNIL.behind(EXT3, 1),
+    MOVE.behind(EXT1, 1),
+    MOVE.behind(EXT2, 1),
+    MOVE.behind(EXT3, 2),
+];
 
 /// Numbers in an order that no predictor learns, the same in every run.
 struct Random(u64);
@@ -123,20 +248,32 @@ impl Random {
     }
 }
 
-/// At most so many bytes of code: the kinds in random order, operands 0, jumps to any instruction, and STOP at the end.
-fn code(kinds: &[Kind], most: usize) -> Vec<u8> {
+/// The order of the kinds in code.
+#[derive(Clone, Copy)]
+enum Order {
+    Random,
+    InTurn,
+}
+
+/// At most so many bytes of code: the kinds in this order, operands 0, jumps to any instruction, and STOP at the end.
+fn code(kinds: &[Kind], order: Order, most: usize) -> Vec<u8> {
     let mut random = Random(88_172_645_463_325_252);
     let mut code = Vec::new();
     let mut starts = Vec::new();
     let mut ends = Vec::new();
     loop {
-        let kind = &kinds[random.below(kinds.len())];
-        if code.len() + kind.size >= most {
+        let kind = match order {
+            Order::Random => kinds[random.below(kinds.len())],
+            Order::InTurn => kinds[starts.len() % kinds.len()],
+        };
+        let start = code.len();
+        if start + kind.size >= most {
             break;
         }
-        starts.push(code.len());
+        starts.push(start);
+        code.extend(kind.prefix);
         code.push(kind.opcode);
-        code.resize(code.len() + kind.size - 1, 0);
+        code.resize(start + kind.size, 0);
         if kind.jumps {
             ends.push(code.len());
         }
@@ -173,24 +310,29 @@ const OWN_LENGTH: usize = 3;
 /// What follows the NOP that this code begins with: NOP and STOP, no constants, no symbols.
 const OWN: [u8; 6] = [0, 118, 0, 0, 0, 0];
 
-/// Records that share code, in which operands name registers alone.
+/// Records that share code of these kinds in random order, in which operands name registers alone.
 fn shared_code(kinds: &[Kind]) -> Vec<u8> {
-    chain(kinds, &NONE, &[])
+    chain(kinds, Order::Random, &NONE, &[])
+}
+
+/// The same with the kinds in turn.
+fn shared_in_turn(kinds: &[Kind]) -> Vec<u8> {
+    chain(kinds, Order::InTurn, &NONE, &[])
 }
 
 /// Records that share code, in which operands name a symbol and a child too: all but the last, which has no child to name.
 fn shared_definitions(kinds: &[Kind]) -> Vec<u8> {
-    chain(kinds, &ONE_SYMBOL, &OWN)
+    chain(kinds, Order::Random, &ONE_SYMBOL, &OWN)
 }
 
 /// A chain of records that passes, with these symbols. All have their code's end in common, but for a last one that has its own, and the code of
 /// each begins with the headers of those behind it, read as instructions: NOP, LOADNIL, LOADI with the number of children, and LOADI32 with the
 /// length.
-fn chain(kinds: &[Kind], symbols: &[u8], own: &[u8]) -> Vec<u8> {
+fn chain(kinds: &[Kind], order: Order, symbols: &[u8], own: &[u8]) -> Vec<u8> {
     let handlers = [0; HANDLERS as usize * HANDLER_BYTES];
     let behind = [&handlers[..], &NONE, symbols].concat();
     let heads = RECORDS * STRIDE + own.len();
-    let code = code(kinds, 65_536 - 32 - heads - behind.len());
+    let code = code(kinds, order, 65_536 - 32 - heads - behind.len());
     let end = heads + code.len();
     let mut content = Vec::new();
     for number in 0..RECORDS {

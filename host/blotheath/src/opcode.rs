@@ -23,8 +23,21 @@ pub enum Flow {
     Ends,
 }
 
-/// The prefix opcodes.
-pub const PREFIXES: std::ops::RangeInclusive<u8> = 115..=117;
+/// The prefix opcodes EXT1, EXT2 and EXT3: an instruction that has one begins at it, and its opcode stands behind it.
+const PREFIXES: std::ops::RangeInclusive<u8> = 115..=117;
+
+pub fn is_prefix(opcode: u8) -> bool {
+    PREFIXES.contains(&opcode)
+}
+
+/// Whether a prefix widens the operand at a place, counted from 0, to two bytes where it has one.
+pub fn widens(prefix: u8, place: usize) -> bool {
+    match place {
+        0 => matches!(name(prefix), Some("EXT1" | "EXT3")),
+        1 => matches!(name(prefix), Some("EXT2" | "EXT3")),
+        _ => false,
+    }
+}
 
 /// The name of an opcode; an unknown one has none.
 pub fn name(opcode: u8) -> Option<&'static str> {

@@ -36,7 +36,7 @@ const REFUSALS: &[(u32, By, &str)] = &[
     (13, Loading, "a line's position passes 32 bits"),
     (14, Loading, "the file needs more than 1,024 records, or more rows than the tables hold"),
     (15, Examination, "the records do not form one whole tree"),
-    (16, Examination, "the instructions of a record cannot be read: an unknown opcode, a prefix, a cut instruction, or none"),
+    (16, Examination, "the instructions of a record cannot be read: an unknown opcode, a cut instruction, or none"),
     (17, Examination, "an operand names a register, constant, symbol or child that does not exist"),
     (18, Examination, "a step leads to a place where no instruction begins"),
     (19, Examination, "a handler leads to a place where no instruction begins"),
@@ -45,6 +45,7 @@ const REFUSALS: &[(u32, By, &str)] = &[
     (22, Lookup, "the row that is asked for does not exist or points outside"),
     (23, Fetch, "the opcode is unknown"),
     (24, Fetch, "the instruction is cut short"),
+    (25, Examination, "a prefix has no opcode behind it: its record ends, or another prefix follows"),
     (27, Loading, "the file is not a compiled pattern: it does not begin with RITE"),
     (28, Loading, "the file is cut short: it has fewer bytes than its header states"),
 ];
@@ -118,7 +119,7 @@ mod tests {
 
     #[test]
     fn numbers_without_a_sentence_say_so() {
-        for number in [0, 25, 26, 29, u32::MAX] {
+        for number in [0, 26, 29, u32::MAX] {
             let refusal = Refusal(number);
             assert_eq!(refusal.sentence(), "no such refusal");
             assert!(!refusal.is_of_loading() && !refusal.is_of_examination());
@@ -143,7 +144,7 @@ mod tests {
         assert_eq!(numbers(Refusal::is_of_loading), loading);
         assert_eq!(
             numbers(Refusal::is_of_examination),
-            [15, 16, 17, 18, 19, 20]
+            [15, 16, 17, 18, 19, 20, 25]
         );
     }
 }

@@ -48,6 +48,53 @@ static const uint8_t definition[89] = {
 /* The choice to enter a child. */
 static const uint8_t enter[1] = {2};
 
+/* One record: NOP, EXT2 LOADI 1 300, EXT1 JMP behind the next one, NOP, STOP. */
+static const uint8_t prefixed[72] = {
+    'R', 'I', 'T', 'E', '0', '4', '0', '0', 0, 0, 0, 72, 0, 0, 0, 0, 0, 0, 0, 0,
+    'I', 'R', 'E', 'P', 0, 0, 0, 44, 0, 0, 0, 0,
+    0, 0, 0, 32, 0, 1, 0, 2, 0, 0, 0, 0, 0, 0, 0, 12, 0, 116, 3, 1, 1, 44, 115, 38, 0, 1, 0, 118, 0, 0, 0, 0,
+    'E', 'N', 'D', 0, 0, 0, 0, 8,
+};
+
+/* The place of its instructions, and offsets in them. */
+#define PREFIXED_CODE 48
+#define AT_EXT2 1
+#define AT_EXT1 6
+#define AT_NOP 10
+#define AT_STOP 11
+
+/* The choice to go on, up to three times. */
+static const uint8_t go_on[3] = {0, 0, 0};
+
+/* What an examination of the record answers with another byte at an offset of its instructions. */
+static uint32_t examined_with(size_t offset, uint8_t byte) {
+    uint8_t changed[sizeof prefixed];
+    uint32_t records[19];
+    memcpy(changed, prefixed, sizeof changed);
+    changed[PREFIXED_CODE + offset] = byte;
+    return blotheath_examine(LENT(changed), LENT(records), NONE, NONE, NONE, NONE, NONE, NONE, NONE, NONE).refusal;
+}
+
+/* Where a run of the record stands after so many choices. */
+static uint32_t gone_to(size_t choices) {
+    uint32_t records[19], frames[2];
+    BlotheathFollowed at = blotheath_follow(LENT(prefixed), LENT(records), NONE, NONE, NONE, NONE, NONE, NONE, NONE, NONE,
+                                            LENT(frames), go_on, choices);
+    return at.refusal == 0 ? at.offset : UINT32_MAX;
+}
+
+static void hold_prefixes(void) {
+    hold(gone_to(1) == AT_EXT2 && gone_to(2) == AT_EXT1, "an instruction begins at its prefix");
+    hold(gone_to(3) == AT_STOP, "a jump behind a prefix counts from the end of its instruction");
+    hold(examined_with(AT_NOP, 0) == 0, "prefixes pass");
+    hold(examined_with(AT_STOP, 115) == 25, "a prefix is the last byte of its record");
+    hold(examined_with(AT_EXT2 + 1, 117) == 25, "another prefix follows a prefix");
+    hold(examined_with(AT_EXT2 + 1, 119) == 16, "an unknown opcode behind a prefix");
+    hold(examined_with(AT_NOP, 117) == 18, "a jump to the opcode behind a prefix");
+    BlotheathFetched fetched = blotheath_fetch(prefixed + PREFIXED_CODE + AT_EXT2, AT_STOP);
+    hold(fetched.refusal == 0 && fetched.kind == 0, "a prefix is fetched by itself");
+}
+
 int main(void) {
     uint32_t records[2 * 19], pool[6], symbols[2], frames[2 * 2];
     BlotheathRecord row[1];
@@ -100,6 +147,7 @@ int main(void) {
     hold(blotheath_examine(LENT(missing), LENT(records), NONE, NONE, LENT(symbols), NONE, NONE, NONE, NONE, NONE).refusal == 17,
          "a third operand that names no child");
 
+    hold_prefixes();
     hold(blotheath_fetch(NONE).refusal == 24, "an instruction of no bytes");
     hold(blotheath_fetch(file + code.place, code.length).a == 1, "an instruction");
     hold(blotheath_line_at(NONE, 0).found == 0, "a map without entries");

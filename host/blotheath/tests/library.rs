@@ -120,8 +120,10 @@ fn refusals_have_places() {
     };
     assert_eq!(place(&[]), (16, Some(0), Some(0)));
     assert_eq!(place(&[0, 119]), (16, Some(0), Some(1)));
-    assert_eq!(place(&[0, 0, 116, 118]), (16, Some(0), Some(2)));
     assert_eq!(place(&[0, 17]), (16, Some(0), Some(1)));
+    assert_eq!(place(&[0, 0, 116, 119]), (16, Some(0), Some(2)));
+    assert_eq!(place(&[0, 0, 116]), (25, Some(0), Some(2)));
+    assert_eq!(place(&[0, 117, 115, 118]), (25, Some(0), Some(1)));
     assert_eq!(place(&[0, 17, 8, 118]), (17, Some(0), Some(1)));
     assert_eq!(place(&[110, 1, 118]), (17, Some(0), Some(0)));
     assert_eq!(place(&[38, 255, 252, 118]), (18, Some(0), Some(0)));
@@ -134,6 +136,8 @@ fn the_search_agrees_with_the_verdict() {
     let mut numbers = Numbers(1);
     let mut found = BTreeSet::new();
     let mut files: Vec<Vec<u8>> = files().iter().map(|path| fs::read(path).unwrap()).collect();
+    // Few files have prefixes.
+    files.extend(vec![build::wide(); 8]);
     files.push(build::newer());
     for round in 0..6_000 {
         let file = damaged(&files[round % files.len()], &mut numbers);
@@ -154,7 +158,7 @@ fn the_search_agrees_with_the_verdict() {
             Err(other) => assert_eq!(refusal, other),
         }
     }
-    for number in [7, 16, 17, 18] {
+    for number in [7, 16, 17, 18, 25] {
         assert!(found.contains(&number), "no file meets {number}");
     }
 }

@@ -37,21 +37,6 @@ fn sample_with(place: usize, byte: u8) -> Vec<u8> {
     bytes
 }
 
-/// A record of the code STOP with handlers that go to these targets.
-fn with_handlers(targets: &[u32]) -> Vec<u8> {
-    let mut content = build::head(0, 1, 8, 0, 1);
-    content[11] = targets.len() as u8;
-    content.push(118);
-    for target in targets {
-        content.extend([0, 0, 0, 0, 0, 0, 0, 0, 1]);
-        content.extend(target.to_be_bytes());
-    }
-    content.extend([0; 4]);
-    let size = content.len() as u32;
-    content[..4].copy_from_slice(&size.to_be_bytes());
-    build::file(&[build::irep(&content)])
-}
-
 /// A record with a debug file of this name, whose lines hold from these positions on.
 fn with_lines(name: &[u8], entries: &[(u32, u16)]) -> Vec<u8> {
     let mut debug = vec![0, 0, 0, 0, 0, 1, 0, 0, 0, 0, 0, 0];
@@ -87,11 +72,14 @@ fn refused() -> Vec<(u32, Vec<u8>)> {
         (15, build::file(&[build::irep(&two.concat())])),
         (16, sample_with(683 + 56, 200)),
         (16, build::one(&[], &[], &[])),
+        (16, build::one(&[build::EXT1, 200, 118], &[], &[])),
         (17, sample_with(493 + 9, 9)),
         (17, build::one(&build::NEWER, &[], &build::NEWER_SYMBOLS)),
         (18, sample_with(595 + 33, 1)),
-        (19, with_handlers(&[0, 77])),
+        (19, build::with_handlers(&[118], &[0, 77])),
         (20, with_lines(b"a.rb", &[(2, 1), (0, 2)])),
+        (25, build::one(&[build::NOP, build::EXT1], &[], &[])),
+        (25, build::one(&[build::EXT2, build::EXT3, 118], &[], &[])),
         (27, build::drawing(700)),
         (28, sample_bytes()[..700].to_vec()),
     ]
@@ -167,7 +155,7 @@ fn the_bad_step_is_marked_and_linked() {
     let row = marked(&sample_with(683 + 56, 200));
     assert!(row.contains("<td class=\"offset\">56</td>"));
     assert!(row.contains("the opcode 200 is unknown. Reading ends here."));
-    let page = page(&folder, "bad.mrb", &with_handlers(&[0, 77]));
+    let page = page(&folder, "bad.mrb", &build::with_handlers(&[118], &[0, 77]));
     let handler = between(&page, "<p class=\"warning\" id=\"bad\">", "</p>");
     assert!(handler.starts_with("Handler 1, ") && handler.contains("Refused by 19"));
 }

@@ -423,7 +423,7 @@ fn rows_that_are_missing() {
     assert!(place.what.starts_with("a row is needed here"), "{place:?}");
 }
 
-/// A byte of the file is also told of refusals by 16 to 19.
+/// A byte of the file is also told of refusals by 16 to 19 and 25.
 #[test]
 fn bytes_of_examined_records() {
     let place = |code: &[u8]| {
@@ -431,8 +431,14 @@ fn bytes_of_examined_records() {
         (place.section, place.byte, place.offset)
     };
     assert_eq!(place(&[0, 119]), (Some("IREP"), Some(49), Some(1)));
-    // The operand's byte.
+    // The opcode's byte behind a prefix, and the prefix's.
+    assert_eq!(place(&[0, 115, 119]), (Some("IREP"), Some(50), Some(1)));
+    assert_eq!(place(&[0, 115]), (Some("IREP"), Some(49), Some(1)));
+    assert_eq!(place(&[0, 115, 117]), (Some("IREP"), Some(49), Some(1)));
+    // The operand's byte, the first of two where it is wide.
     assert_eq!(place(&[0, 17, 8, 118]), (Some("IREP"), Some(50), Some(1)));
+    let wide = [0, 117, 1, 0, 1, 1, 0, 118];
+    assert_eq!(place(&wide), (Some("IREP"), Some(53), Some(1)));
     let mut file = build::file(&[build::irep(&record(1, 0, &[]))]);
     let target = 32 + 16 + 1 + 9;
     file[target + 3] = 1;

@@ -281,8 +281,7 @@ impl<'w, 'p, 'a> View<'w, 'p, 'a> {
         };
         let meanings = self.reader.meanings(number, &record, step);
         let operands: Vec<String> = meanings.iter().map(Meaning::shown).collect();
-        let name = opcode_name(step.opcode).unwrap_or_default();
-        format!("{name} {}", operands.join(", "))
+        format!("{} {}", step.name(), operands.join(", "))
             .trim_end()
             .to_owned()
     }

@@ -44,11 +44,13 @@ const STEPS: &str = "\
 blotheath steps FILE [--source SOURCE.rb] [--json] [--all]
 
 Each instruction of each record: its offset, name, operands with their meaning, and source line. Jumps are drawn in the
-margin. A file that loads but does not pass is shown as far as it can be read, and the exit status is 1. Up to 65,536 steps
-are shown, as many as a file without overlapping records can have, and up to 48 bytes of a text (256 in JSON, where a
-constant that is cut has its \"length\" and the number of its \"zeros\"); --all shows every step, and every text whole. The
-lines of SOURCE.rb are shown beside the steps of the debug files of that name, and where there is no such file that is told;
-nothing proves that it is the source of the pattern.
+margin. A prefix is one step with the opcode behind it, and the step's offset is the prefix's: EXT1 widens the first operand
+to two bytes, EXT2 the second, EXT3 both. In JSON \"prefix\" is the prefix's byte, or null. A file that loads but does not
+pass is shown as far as it can be read, and the exit status is 1. Up to 65,536 steps are shown, as many as a file without
+overlapping records can have, and up to 48 bytes of a text (256 in JSON, where a constant that is cut has its \"length\" and
+the number of its \"zeros\"); --all shows every step, and every text whole. The lines of SOURCE.rb are shown beside the
+steps of the debug files of that name, and where there is no such file that is told; nothing proves that it is the source
+of the pattern.
 
 Examples
     blotheath steps oval.mrb

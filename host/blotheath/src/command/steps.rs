@@ -152,6 +152,18 @@ pub fn margin(steps: &[Step]) -> Margin {
     Margin::of(arrows.collect())
 }
 
+/// The columns that an opcode's name has, and those of a prefix before it with a blank.
+const OPCODE_COLUMNS: usize = 10;
+const PREFIX_COLUMNS: usize = 5;
+
+/// The columns that the names of these steps have.
+fn name_columns(steps: &[Step]) -> usize {
+    match steps.iter().any(|step| step.prefix.is_some()) {
+        true => PREFIX_COLUMNS + OPCODE_COLUMNS,
+        false => OPCODE_COLUMNS,
+    }
+}
+
 /// A number of children in words.
 fn children(number: u32) -> String {
     match number {
@@ -186,13 +198,15 @@ impl View<'_, '_, '_> {
         writeln!(self.out, "\n{} {about}", style.bold(&title))?;
         let shown = shown(self.reader.pattern, number, &mut self.most.left);
         let margin = margin(&shown.steps);
+        let columns = name_columns(&shown.steps);
         let mut line = None;
         for (row, step) in shown.steps.iter().enumerate() {
             let now = self.line(number, step)?;
             let told = if now == line { None } else { now };
             line = now;
             let meanings = self.reader.meanings(number, record, step);
-            self.step(number, &margin.drawn(row), step, &meanings, told)?;
+            let name = format!("{:<columns$}", step.name());
+            self.step(number, &margin.drawn(row), step, &name, &meanings, told)?;
         }
         if let Some(bad) = shown.bad {
             let text = format!("{:>6}  {bad}: reading ends here", bad.offset());
@@ -215,6 +229,7 @@ impl View<'_, '_, '_> {
         number: u32,
         margin: &str,
         step: &Step,
+        name: &str,
         meanings: &[Meaning],
         line: Option<u32>,
     ) -> io::Result<()> {
@@ -230,15 +245,14 @@ impl View<'_, '_, '_> {
             .map(|meaning| meaning.shown_up_to(self.most.text))
             .collect();
         let operands = operands.join(", ");
-        let name = format!("{:<10}", opcode_name(step.opcode).unwrap_or_default());
         let row = |line: &str, margin: &str, name: &str| {
             format!("{line}  {margin}{:>5}  {name} {operands}", step.offset)
         };
         let source = beside.map(|beside| {
-            let width = row(&line, margin, &name).chars().count();
+            let width = row(&line, margin, name).chars().count();
             beside.behind(width, number, step.offset, self.most.line)
         });
-        let row = row(&style.dim(&line), &style.arrow(margin), &style.bold(&name));
+        let row = row(&style.dim(&line), &style.arrow(margin), &style.bold(name));
         let row = row + &style.dim(&source.unwrap_or_default());
         writeln!(self.out, "{}", row.trim_end())
     }
@@ -339,6 +353,7 @@ impl Steps<'_, '_> {
     fn step(&self, json: &mut Json, number: u32, record: &Record, step: &Step) -> io::Result<()> {
         let line = self.reader.pattern.line(number, step.offset);
         json.key("offset")?.number(step.offset)?;
+        json.key("prefix")?.optional(step.prefix.map(u32::from))?;
         json.key("opcode")?.number(step.opcode)?;
         json.key("name")?
             .string(opcode_name(step.opcode).unwrap_or_default())?;

@@ -1,9 +1,9 @@
-//! Where a refusal by 15 to 20 lies: a search over the loaded rows, in examination's order.
+//! Where a refusal by 15 to 20 or 25 lies: a search over the loaded rows, in examination's order.
 
 use super::Place;
-use crate::opcode::{Flow, Role, flow, name};
+use crate::opcode::{Flow, Role, flow};
 use crate::pattern::{Pattern, Record};
-use crate::step::Step;
+use crate::step::{BadStep, Step};
 
 /// The bytes of a handler, and of those before its target.
 const HANDLER_BYTES: u32 = 13;
@@ -88,27 +88,61 @@ impl Found {
             what,
         })
     }
+
+    /// An instruction that cannot be read; the byte is the one that is refused.
+    fn unreadable(record: &Record, bad: BadStep) -> Found {
+        Found {
+            refusal: bad.refusal().number(),
+            section: "IREP",
+            byte: Some(record.place + bad.refused_at()),
+            offset: Some(bad.offset()),
+            what: bad.to_string(),
+        }
+    }
+}
+
+/// What a byte of a record's instructions is.
+#[derive(Clone, Copy, PartialEq, Eq)]
+enum Byte {
+    /// The first of an instruction.
+    First,
+    /// The opcode behind a prefix.
+    BehindPrefix,
+    Other,
 }
 
 /// The offsets of a record at which instructions begin.
 #[derive(Default)]
-struct Begins(Vec<bool>);
+struct Begins(Vec<Byte>);
 
 impl Begins {
     fn clear(&mut self, length: usize) {
         self.0.clear();
-        self.0.resize(length, false);
+        self.0.resize(length, Byte::Other);
     }
 
-    fn mark(&mut self, offset: u32) {
-        if let Some(flag) = self.0.get_mut(offset as usize) {
-            *flag = true;
+    fn mark(&mut self, step: &Step) {
+        let offset = step.offset as usize;
+        self.0[offset] = Byte::First;
+        if step.prefix.is_some() {
+            self.0[offset + 1] = Byte::BehindPrefix;
         }
     }
 
+    fn byte(&self, offset: i64) -> Option<Byte> {
+        self.0.get(usize::try_from(offset).ok()?).copied()
+    }
+
     fn at(&self, offset: i64) -> bool {
-        let index = usize::try_from(offset).ok();
-        index.is_some_and(|index| self.0.get(index) == Some(&true))
+        self.byte(offset) == Some(Byte::First)
+    }
+
+    /// An offset in words: what stands there is told where a reader may take it for an instruction.
+    fn told(&self, offset: i64) -> String {
+        match self.byte(offset) {
+            Some(Byte::BehindPrefix) => format!("{offset}, the opcode behind a prefix"),
+            _ => offset.to_string(),
+        }
     }
 }
 
@@ -125,8 +159,8 @@ fn search_record(
     begins.clear(code.len());
     for step in pattern.steps(number).ok()? {
         match step {
-            Ok(step) => begins.mark(step.offset),
-            Err(bad) => return Found::at(16, record, bad.offset(), bad.to_string()),
+            Ok(step) => begins.mark(&step),
+            Err(bad) => return Some(Found::unreadable(record, bad)),
         }
     }
     let steps = pattern.steps(number).ok()?.flatten();
@@ -150,7 +184,7 @@ fn search_operands(record: &Record, step: &Step) -> Option<Found> {
         if operand < number {
             return None;
         }
-        let (ordinal, name) = (ORDINALS[place], name(step.opcode).unwrap_or_default());
+        let (ordinal, name) = (ORDINALS[place], step.name());
         Some(Found {
             refusal: 17,
             section: "IREP",
@@ -177,12 +211,8 @@ fn known(record: &Record, role: Role) -> Option<(u32, &'static str)> {
 /// A jump's target or a next offset at which no instruction begins.
 fn search_targets(record: &Record, step: &Step, begins: &Begins) -> Option<Found> {
     if let Some(target) = step.target().filter(|target| !begins.at(*target)) {
-        return Found::at(
-            18,
-            record,
-            step.offset,
-            format!("the jump goes to {target}"),
-        );
+        let what = format!("the jump goes to {}", begins.told(target));
+        return Found::at(18, record, step.offset, what);
     }
     let goes_on = matches!(flow(step.opcode), Flow::Next | Flow::MayJump);
     if goes_on && !begins.at(step.next.into()) {
@@ -206,7 +236,7 @@ fn search_handlers(
                 section: "IREP",
                 byte: Some(record.place + record.ilen + index * HANDLER_BYTES + BEFORE_TARGET),
                 offset: None,
-                what: format!("handler {index} goes to {target}"),
+                what: format!("handler {index} goes to {}", begins.told(target.into())),
             });
         }
     }

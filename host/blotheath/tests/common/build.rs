@@ -54,8 +54,9 @@ pub fn head(size: u32, nlocals: u16, nregs: u16, rlen: u16, ilen: u32) -> Vec<u8
     head
 }
 
-/// Where a record's header has its number of locals.
+/// Where a record's header has its number of locals, and its number of registers.
 pub const NLOCALS: Range<usize> = 4..6;
+pub const NREGS: Range<usize> = 6..8;
 
 /// A record of this code, with constants and symbols as bytes behind their counts.
 pub fn record(rlen: u16, code: &[u8], constants: &[&[u8]], symbols: &[&[u8]]) -> Vec<u8> {
@@ -83,6 +84,21 @@ pub fn one(code: &[u8], constants: &[&[u8]], symbols: &[&[u8]]) -> Vec<u8> {
     file(&[irep(&record(0, code, constants, symbols))])
 }
 
+/// A file of one record of this code, with handlers that go to these targets.
+pub fn with_handlers(code: &[u8], targets: &[u32]) -> Vec<u8> {
+    let mut content = head(0, 1, 8, 0, code.len() as u32);
+    content[11] = targets.len() as u8;
+    content.extend(code);
+    for target in targets {
+        content.extend([0, 0, 0, 0, 0, 0, 0, 0, 1]);
+        content.extend(target.to_be_bytes());
+    }
+    content.extend([0; 4]);
+    let size = content.len() as u32;
+    content[..4].copy_from_slice(&size.to_be_bytes());
+    file(&[irep(&content)])
+}
+
 /// The distance between records that share code: a size that is also the opcode LOADNIL.
 const STRIDE: usize = 17;
 
@@ -92,15 +108,26 @@ const LAST_SIZE: u32 = 0x1100_0000;
 const RECORDS: usize = 1_024;
 
 /// Opcodes, by their names.
+pub const NOP: u8 = 0;
+pub const MOVE: u8 = 1;
+pub const LOADL: u8 = 2;
+pub const LOADSYM: u8 = 16;
 pub const LOADNIL: u8 = 17;
 pub const GETIDX0: u8 = 36;
+pub const JMP: u8 = 38;
+pub const JMPNOT: u8 = 40;
 pub const SSEND0: u8 = 48;
+pub const SEND: u8 = 50;
 pub const SEND0: u8 = 51;
 pub const RETURN: u8 = 61;
 pub const LAMBDA: u8 = 97;
 pub const BLOCK: u8 = 98;
+pub const METHOD: u8 = 99;
 pub const TDEF: u8 = 107;
 pub const SDEF: u8 = 108;
+pub const EXT1: u8 = 115;
+pub const EXT2: u8 = 116;
+pub const EXT3: u8 = 117;
 pub const STOP: u8 = 118;
 
 /// How many records share their code, and the bytes of it: fewer for the model, which is slow.
@@ -260,6 +287,58 @@ pub fn newer() -> Vec<u8> {
     names.extend([0, 0, 0, 1]);
     let records = [main, parent, leaf.clone(), leaf].concat();
     file(&[irep(&records), section(b"LVAR", &names)])
+}
+
+/// How many registers, constants, symbols and children the record with wide operands has.
+pub const WIDE_NUMBER: u16 = 300;
+
+/// Steps behind prefixes in a record of that many things, with operands at and past 255.
+#[rustfmt::skip]
+pub const WIDE: [u8; 50] = [
+    EXT1, LOADNIL, 1, 43,
+    EXT2, LOADL, 1, 1, 0,
+    EXT3, MOVE, 0, 255, 1, 0,
+    EXT2, LOADSYM, 1, 1, 43,
+    EXT3, SEND, 1, 0, 1, 1, 1,
+    EXT2, BLOCK, 1, 1, 0,
+    EXT3, METHOD, 1, 0, 1, 43,
+    EXT1, JMPNOT, 1, 0, 0, 4,
+    EXT3, JMP, 255, 246,
+    EXT2, STOP,
+];
+
+/// A file with wide operands: constant n is n + 1,000, symbol n is `s` and n, and the registers 256 and 299 hold named locals.
+pub fn wide() -> Vec<u8> {
+    let constants: Vec<Vec<u8>> = (0..u32::from(WIDE_NUMBER))
+        .map(|number| [&[1], &(1_000 + number).to_be_bytes()[..]].concat())
+        .collect();
+    let symbols: Vec<String> = (0..WIDE_NUMBER)
+        .map(|number| format!("s{number}"))
+        .collect();
+    let constants: Vec<&[u8]> = constants.iter().map(Vec::as_slice).collect();
+    let symbols: Vec<&[u8]> = symbols.iter().map(String::as_bytes).collect();
+    let mut main = record(WIDE_NUMBER, &WIDE, &constants, &symbols);
+    for field in [NLOCALS, NREGS] {
+        main[field].copy_from_slice(&WIDE_NUMBER.to_be_bytes());
+    }
+    let child = record(0, &[LOADNIL, 1, RETURN, 1], &[], &[]);
+    let records = [main, child.repeat(WIDE_NUMBER.into())].concat();
+    file(&[irep(&records), section(b"LVAR", &wide_names())])
+}
+
+/// Two strings, and the locals in registers 1 to 299, all but two of them without a name.
+fn wide_names() -> Vec<u8> {
+    let mut names = vec![0, 0, 0, 2, 0, 4];
+    names.extend(b"rods\0\x05pitch");
+    for register in 1..WIDE_NUMBER {
+        let name: u16 = match register {
+            256 => 0,
+            299 => 1,
+            _ => 65_535,
+        };
+        names.extend(name.to_be_bytes());
+    }
+    names
 }
 
 /// One string, and a record's one local variable named by it, so many times.

@@ -202,7 +202,7 @@ pub fn damaged(file: &[u8], numbers: &mut Numbers) -> Vec<u8> {
             bytes[place] = match numbers.below(3) {
                 0 => numbers.next() as u8,
                 1 => bytes[place].wrapping_add(1),
-                _ => [0, 1, 118, 255][numbers.below(4)],
+                _ => [0, 1, 115, 116, 117, 118, 255][numbers.below(7)],
             };
         }
     }

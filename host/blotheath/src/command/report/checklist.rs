@@ -19,15 +19,15 @@ enum When {
 
 /// What a file that passes keeps.
 struct Condition {
-    /// The refusal that says otherwise; none where all of loading's do.
-    number: Option<u32>,
+    /// The refusals that say otherwise; none where all of loading's do.
+    refusals: &'static [u32],
     when: When,
     sentence: &'static str,
 }
 
-const fn condition(number: u32, when: When, sentence: &'static str) -> Condition {
+const fn condition(refusals: &'static [u32], when: When, sentence: &'static str) -> Condition {
     Condition {
-        number: Some(number),
+        refusals,
         when,
         sentence,
     }
@@ -35,34 +35,34 @@ const fn condition(number: u32, when: When, sentence: &'static str) -> Condition
 
 /// The conditions in examination's order.
 const CONDITIONS: [Condition; 7] = [
-    Condition {
-        number: None,
-        when: When::Loading,
-        sentence: "The file can be read as the format says.",
-    },
-    condition(15, When::Once, "The records form one whole tree."),
     condition(
-        16,
+        &[],
+        When::Loading,
+        "The file can be read as the format says.",
+    ),
+    condition(&[15], When::Once, "The records form one whole tree."),
+    condition(
+        &[16, 25],
         When::RecordsCode,
-        "Every record has instructions, and all of them can be read.",
+        "Every record has instructions, and all of them can be read, each prefix with the opcode behind it.",
     ),
     condition(
-        17,
+        &[17],
         When::EachStep,
         "Every register, constant, symbol and child that a step names exists.",
     ),
     condition(
-        18,
+        &[18],
         When::EachStep,
         "Every step leads to a place where an instruction begins.",
     ),
     condition(
-        19,
+        &[19],
         When::RecordsHandlers,
         "Every handler leads to a place where an instruction begins.",
     ),
     condition(
-        20,
+        &[20],
         When::RecordsMap,
         "The positions of every line map never fall.",
     ),
@@ -100,9 +100,9 @@ impl State {
 
 impl Condition {
     fn is_of(&self, refusal: Refusal) -> bool {
-        match self.number {
-            Some(number) => refusal.number() == number,
-            None => refusal.is_of_loading(),
+        match self.refusals {
+            [] => refusal.is_of_loading(),
+            refusals => refusals.contains(&refusal.number()),
         }
     }
 
@@ -130,7 +130,7 @@ impl Condition {
             false => None,
         };
         let steps = match offset {
-            Some(offset) if self.number < broken.number => format!("up to offset {offset}"),
+            Some(offset) if self.refusals < broken.refusals => format!("up to offset {offset}"),
             Some(offset) if offset > 0 => format!("before offset {offset}"),
             _ => String::new(),
         };
@@ -220,8 +220,8 @@ pub fn write(out: &mut dyn Write, verdict: &Verdict) -> io::Result<()> {
     if let Verdict::Refused { pattern, .. } = verdict {
         let order = match pattern {
             Some(_) => {
-                "Examination ends at the first condition that does not hold. It looks at 15 first, then at each record in turn: at 16 over all of its \
-                 instructions, at 17 and then 18 at each step, at 19, at 20."
+                "Examination ends at the first condition that does not hold. It looks at 15 first, then at each record in turn: at 16 and 25 in one \
+                 reading of all of its instructions, at 17 and then 18 at each step, at 19, at 20."
             }
             None => "A file that does not load is not examined.",
         };
@@ -276,10 +276,12 @@ mod tests {
         let steps = |words: &str| {
             format!("holds in records 0 to 2, and in record 3 {words}; not looked at further on")
         };
-        assert_eq!(
-            told(16, Some(at(3, Some(7)))),
-            ["holds", "holds", up_to_2, up_to_2, up_to_2, up_to_2]
-        );
+        for number in [16, 25] {
+            assert_eq!(
+                told(number, Some(at(3, Some(7)))),
+                ["holds", "holds", up_to_2, up_to_2, up_to_2, up_to_2]
+            );
+        }
         assert_eq!(
             told(17, Some(at(3, Some(7)))),
             [
@@ -337,6 +339,7 @@ mod tests {
     fn numbers_of_conditions() {
         assert_eq!(CONDITIONS[0].numbers(), "1 to 14, 27, 28");
         assert_eq!(CONDITIONS[1].numbers(), "15");
+        assert_eq!(CONDITIONS[2].numbers(), "16, 25");
         assert_eq!(runs([].into_iter()), "");
         assert_eq!(runs([1, 3, 4, 6, 7, 8].into_iter()), "1, 3, 4, 6 to 8");
     }

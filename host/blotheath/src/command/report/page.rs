@@ -129,7 +129,7 @@ impl Page<'_> {
         match self.verdict {
             Verdict::Passes(_) => writeln!(
                 out,
-                "<p class=\"verdict passes\"><strong>Passes</strong> <span>It loads, and it meets none of the refusals 15 to 20.</span></p>"
+                "<p class=\"verdict passes\"><strong>Passes</strong> <span>It loads, and it meets none of the refusals 15 to 20 and 25.</span></p>"
             )?,
             Verdict::Refused { refusal, .. } => writeln!(
                 out,

@@ -14,7 +14,7 @@ const CLAIMS: [(&str, &str); 4] = [
     ),
     (
         "Examination",
-        "A file passes exactly where it meets none of the conditions 15 to 20 of the definition.",
+        "A file passes exactly where it meets none of the conditions 15 to 20 and 25 of the definition.",
     ),
     (
         "Runs",
@@ -26,9 +26,9 @@ const CLAIMS: [(&str, &str); 4] = [
 const TRUSTED: [&str; 4] = [
     "The definitions in crates/format/specs say what the format is. They are short, and are to be read beside the format's papers.",
     "The logic and the compiler of the Rattle kit, and the call from this program into the proved archive.",
-    "This program reads the file, asks the proved archive, and draws this page. It is tested, not proved. Names of opcodes, words \
-     for arguments and parameters, labels of records, jumps, pictures, the place of a refusal, with how far each condition was \
-     looked at, and what a file that is no pattern looks like, are its own.",
+    "This program reads the file, asks the proved archive, and draws this page. It is tested, not proved. Names of opcodes, \
+     operands that a prefix widens, words for arguments and parameters, labels of records, jumps, pictures, the place of a \
+     refusal, with how far each condition was looked at, and what a file that is no pattern looks like, are its own.",
     "Nothing proves that a source text shown here is the text that the pattern was made from.",
 ];
 

@@ -262,7 +262,7 @@ impl<'v> View<'v> {
             "<td class=\"jumps\">{}</td><td class=\"offset\">{}</td><td class=\"name\">{}</td><td class=\"operands\">",
             self.jumps(number),
             step.offset,
-            opcode_name(step.opcode).unwrap_or_default(),
+            name(step),
         )?;
         let meanings = self.reader.meanings(self.number, self.record, step);
         for (place, meaning) in meanings.iter().enumerate() {
@@ -488,6 +488,15 @@ impl<'v> View<'v> {
             ),
             false => writeln!(out, "<p class=\"note\">{told}</p>"),
         }
+    }
+}
+
+/// The name of a step, that of its prefix set apart.
+fn name(step: &Step) -> String {
+    let opcode = opcode_name(step.opcode).unwrap_or_default();
+    match step.prefix.and_then(opcode_name) {
+        Some(prefix) => format!("<span class=\"prefix\">{prefix}</span> {opcode}"),
+        None => opcode.to_owned(),
     }
 }
 
