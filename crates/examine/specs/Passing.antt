@@ -1,4 +1,4 @@
--- A file that is loaded, has at most so many records, and meets none of 15 to 20: what examination and follow have in common.
+-- A file that is loaded, has at most so many records, and meets none of 15 to 20 and 25: what examination and follow have in common.
 -- Assumes nothing.
 use Prim.Native.Nat.{ℕ}
 use mathlib.Core.Bool.{cond}

@@ -1,4 +1,4 @@
-// Examination of a file: it is loaded, then tested for 15 to 20.
+// Examination of a file: it is loaded, then tested for 15 to 20 and 25.
 use exam::examine_tables;
 use rite::Loaded;
 use tables::clear_all;
@@ -21,7 +21,7 @@ fn refusal(f: &[u8], records: &[u32], handlers: &[u32], lines: &[u32], n: u32, r
     examine_tables(f, records, handlers, lines, count)
 }
 
-// Loads a file of at most so many records that meets none of 15 to 20; after a refusal every table is zeros alone.
+// Loads a file of at most so many records that meets none of 15 to 20 and 25; after a refusal every table is zeros alone.
 pub fn load_passing(
     f: &[u8],
     records: &mut [u32],

@@ -1,5 +1,5 @@
--- The examination of a file is exact: it passes exactly the loaded files that meet none of 15 to 20, and a number that it answers for a loaded
--- file is that of a condition that is met, the first in paper 01's order.
+-- The examination of a file is exact: it passes exactly the loaded files that meet none of 15 to 20 and 25, and a number that it answers for a loaded
+-- file is that of a condition that is met, the first in the papers' order.
 -- Assumes nothing.
 use Prim.Native.Nat.{ℕ, zero, suc, _<_, suc-le-suc}
 use native.Mathlib.Nat.{le-of-suc-le-suc}
@@ -26,7 +26,7 @@ pub load-refused : (f : List ℕ) (m : Nine) (n : ℕ) → loading f m ≡ refus
 unfolding examine examining
 load-refused f m n e = rw e
 
--- The first in order: 15 before all others; else the first record that has one, and in it the first of 16 over the whole record, 17 and 18 by
+-- The first in order: 15 before all others; else the first record that has one, and in it the first of 16 and 25 over the whole record, 17 and 18 by
 -- instruction, 19, 20.
 pub data InRecord (r : Record) (n : ℕ) : Type 0 where
   by16 : exam16 (r .code) ≡ n → InRecord r n
@@ -122,7 +122,7 @@ module _ (f : List ℕ) (m : Nine) (c : Content) (l : loading f m ≡ ok c) wher
       go zero q = absurd (ok-refused (sym e ∙ answer-is 0 q))
       go (suc k) q = subst (λ x. InOrder (patternOf f c) x) (refused-same (sym (answer-is (suc k) q) ∙ e)) (in-order (patternOf f c) k q)
 
-  -- it passes exactly where none of 15 to 20 is met, and answers the rows used
+  -- it passes exactly where none of 15 to 20 and 25 is met, and answers the rows used
   pub passes-exactly : (examine f m .answer ≡ ok (used (tablesOf c))) ↔ Passes (patternOf f c)
   passes-exactly = (λ e. passes-iff (patternOf f c) .0 (go e (examinePattern (patternOf f c)) refl), λ p. answer-is 0 (passes-iff (patternOf f c) .1 p))
     where
