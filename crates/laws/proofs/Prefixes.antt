@@ -2,19 +2,18 @@
 -- Assumes nothing.
 use Prim.Native.Nat.{ℕ, _+_, _<_}
 use native.Mathlib.Omega.{arith}
-use mathlib.Core.Path.{_≡_, refl, _∙_}
+use mathlib.Core.Path.{_≡_}
 use mathlib.Core.Logic.{inr}
 use mathlib.Core.Bool.{Bool, true, false, _&&_, not}
 use mathlib.Core.List.{List}
 use lib.Dec.{T, leb}
 use lib.ListN.{getD}
 use Rattle.format.specs.Bytes.{byte}
-use Rattle.format.specs.Insn.{flow, prefix, lead, rowAt, next, jump, target}
-use Rattle.format.specs.Pattern.{Record, Pattern, clen, recAt, Begins, begins, lands}
+use Rattle.format.specs.Insn.{flow, prefix, lead, rowAt, jump, target}
+use Rattle.format.specs.Pattern.{Record, Pattern, clen, begins, lands}
 use Rattle.format.specs.Exam.{hasTarget, Bad18, Bad19}
 use Rattle.format.specs.Run.{Frame, codeOf}
 use Rattle.format.specs.Claim.{FrameHolds}
-use Rattle.format.proofs.Answers.{false-true}
 use Rattle.runs.proofs.Next.{next-at}
 use Rattle.runs.proofs.Begins.{begins-between, begins-iff}
 

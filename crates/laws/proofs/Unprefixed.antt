@@ -8,10 +8,10 @@ use mathlib.Core.Bool.{Bool, true, false, _&&_, not, cond}
 use mathlib.Core.List.{List, [], _∷_}
 use lib.Dec.{T, leb, ltb, eqb}
 use lib.ListN.{length, getD}
-use Rattle.format.specs.Bytes.{Answer, ok, refused, byte, refuse, first}
+use Rattle.format.specs.Bytes.{ok, refused, byte, refuse, first}
 use Rattle.format.specs.File.{Content}
-use Rattle.format.specs.Insn.{fields, width, kind, roles, flow, row, size, known, prefix, signed16, lastOf, operands, opcode, rowAt, operandsAt, rest}
-use Rattle.format.specs.Insn.{next, jump, target}
+use Rattle.format.specs.Insn.{fields, width, kind, roles, flow, row, size, known, prefix, signed16, lastOf, operands, opcode, operandsAt, rest}
+use Rattle.format.specs.Insn.{jump, target}
 use Rattle.format.specs.Line.{rising}
 use Rattle.format.specs.Tree.{whole}
 use Rattle.format.specs.Pattern.{Record, Pattern, patternOf, recAt, blank, rlens, reach, begins, lands}

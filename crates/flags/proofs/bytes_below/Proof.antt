@@ -1,6 +1,5 @@
 -- `flags::bytes_below` meets its contract.
 -- Assumes nothing.
-use native.Mathlib.Omega.{arith}
 use mathlib.Core.Path.{sym, _∙_}
 use borrow.Author.Tests.{not-true, not-false}
 use Rattle.flags.proofs.Roles.{fails-first, fails-second, left-third, first-operand, second-operand, third-role, all-bytes}

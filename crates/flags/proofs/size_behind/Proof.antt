@@ -1,7 +1,7 @@
 -- `flags::size_behind` meets its contract.
 -- Assumes nothing.
 use native.Mathlib.Omega.{arith}
-use Prim.Native.Nat.{_-_, _*_, _/_, _%_, _≤_, _<_}
+use Prim.Native.Nat.{_-_, _*_, _/_, _%_, _<_}
 use Rattle.format.specs.Insn.{widensFirst, widensSecond}
 use Rattle.format.proofs.Prefix.{one-or-two}
 use Rattle.flags.proofs.Values.{at-most-once}

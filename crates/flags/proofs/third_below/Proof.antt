@@ -1,6 +1,5 @@
 -- `flags::third_below` meets its contract.
 -- Assumes nothing.
-use native.Mathlib.Omega.{arith}
 use mathlib.Core.List.{[]}
 use mathlib.Core.Path.{ap, _∙_}
 use Rattle.format.specs.Exam.{below}

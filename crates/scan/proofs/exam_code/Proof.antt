@@ -8,7 +8,8 @@ use lib.ListN.{length}
 use borrow.Author.Tests.{not-true, not-false}
 use Rattle.flags.specs.Flags.{bare, landsFrom}
 use Rattle.flags.proofs.Goes.{flags-mark}
-use Rattle.scan.proofs.Going.{Going, going-start, going-skip, going-17, going-18, going-off, going-land, going-end, jump-entire, jump-inside, jump-behind, passes, coded-16, coded-stop, coded-end}
+use Rattle.scan.proofs.Going.{Going, going-start, going-skip, going-17, going-18, going-off, going-land, going-end, jump-entire, jump-inside, jump-behind}
+use Rattle.scan.proofs.Going.{passes, coded-16, coded-stop, coded-end}
 use Rattle.scan.proofs.exam_code.Statement.{statement}
 use Rattle.scan.proofs.exam_code.Tie as tie
 
