@@ -3,7 +3,7 @@
 use Prim.Native.Nat.{ℕ, zero, suc, _+_, _/_, _%_, _≤_, _<_}
 use native.Mathlib.Omega.{arith}
 use mathlib.Core.Path.{_≡_, refl, sym, ap, _∙_}
-use mathlib.Core.Bool.{Bool, true, false, _&&_, cond}
+use mathlib.Core.Bool.{Bool, true, false, _&&_}
 use mathlib.Core.List.{List, []}
 use lib.Dec.{T, ltb}
 use lib.ListN.{length, getD}
@@ -15,7 +15,7 @@ use Rattle.runs.proofs.Operands.{numbers, role-inside, roleIn, below-behind, be
 use Rattle.runs.proofs.Next.{opcode-alone, next-alone}
 use Rattle.opcode.specs.Digits.{roleNumber, roleAt}
 use Rattle.opcode.proofs.Numbers.{role-small, few, first-digit, second-digit, third-digit, inside-digit, last-digit, role-back}
-use Rattle.flags.specs.Flags.{Limits, bare, Operand, Looked, Alone, flagAt}
+use Rattle.flags.specs.Flags.{Limits, bare, Operand, Looked, Alone, flagAt, flagBy}
 
 numbered : (x : Role) → 0 < roleNumber x → T (numbers x)
 unfolding numbers
@@ -133,6 +133,6 @@ module _ {c : List ℕ} {o d : ℕ} (k : Looked c o d) where
 
     -- the flag: b is what 17 answers, i whether the next offset is inside
     pub flag-told : {b i : Bool} → b ≡ operandsBelow (bare l c) o → i ≡ ltb (next c o) (length c)
-        → cond b (cond i (d / 32768 % 8) (d / 262144 % 8)) 2 ≡ flagAt (bare l c) o
+        → flagBy b i d ≡ flagAt (bare l c) o
     unfolding flagAt
     flag-told eb ei = rw (eb, ei, inside-digit (rowAt c o) (k .digits) (few (opcode c o)), last-digit (rowAt c o) (k .digits) (few (opcode c o)))

@@ -62,12 +62,12 @@ module _ (b : ℕ) where
 
 -- what the tests answer
 module _ (l c : List ℕ) (o : ℕ) where
-  pub tested-stray : stray c o ≡ true → 1600 ≡ testedAt l c o
+  pub tested-stray : stray c o ≡ true → 25 * 64 ≡ testedAt l c o
   unfolding testedAt
   tested-stray e = rw e
 
   module _ (s : stray c o ≡ false) where
-    pub tested-unreadable : readable c o ≡ false → 1024 ≡ testedAt l c o
+    pub tested-unreadable : readable c o ≡ false → 16 * 64 ≡ testedAt l c o
     unfolding testedAt
     tested-unreadable r = rw (s, r)
 

@@ -31,7 +31,7 @@ pub record Looked (c : List ℕ) (o d : ℕ) : Type 0 where
   pub inside : o < length c
   pub digits : d ≡ digitsOf (opcode c o)
 
--- it has no prefix and is whole
+-- and that instruction has no prefix and is whole
 pub record Alone (c : List ℕ) (o d : ℕ) : Type 0 where
   pub looked : Looked c o d
   pub no-prefix : prefix (byte c o) ≡ false
@@ -58,6 +58,10 @@ flagAt r o =
     (operandsBelow r o)
     (cond (ltb (next (r .code) o) (length (r .code))) (flagInside (flow (rowAt (r .code) o))) (flagLast (flow (rowAt (r .code) o))))
     2
+
+-- and by what 17 answers, by whether the next offset is inside the record, and by the digits of the opcode
+abbrev pub flagBy : Bool → Bool → ℕ → ℕ
+flagBy below inside d = cond below (cond inside (d / 32768 % 8) (d / 262144 % 8)) 2
 
 -- what the tests of the instruction at o answer: its size and, behind that, its flag; or no size, and the number that it meets of 16 and 25
 unfoldable pub testedAt : List ℕ → List ℕ → ℕ → ℕ

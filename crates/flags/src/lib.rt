@@ -4,17 +4,17 @@ use opcode::first_width;
 use opcode::lead;
 use opcode::parts::*;
 use opcode::second_width;
-ghost use mathlib.Core.Bool.{false, true, cond};
+ghost use mathlib.Core.Bool.{false, true};
 ghost use mathlib.Core.List.{[]};
 ghost use mathlib.Core.Path.{_≡_};
-ghost use Prim.Native.Nat.{_+_, _/_, _%_, _<_, _≤_};
+ghost use Prim.Native.Nat.{_+_, _<_, _≤_};
 ghost use lib.ListN.{length};
 ghost use Rattle.format.specs.Bytes.{byte};
 ghost use Rattle.format.specs.Insn.{prefix, operand, opcode as opcodeOf, signed16, next};
 ghost use Rattle.format.specs.Pattern.{begins};
 ghost use Rattle.format.specs.Exam.{below, operandsBelow};
 ghost use Rattle.opcode.specs.Digits.{roleAt, instruction};
-ghost use Rattle.flags.specs.Flags.{Limits, Operand, Looked, Alone, Entire, bare, sizeBehind, flagAt, testedAt, Marked, landsFrom};
+ghost use Rattle.flags.specs.Flags.{Limits, Operand, Looked, Alone, Entire, bare, sizeBehind, flagAt, flagBy, testedAt, Marked, landsFrom};
 
 // The flag of an instruction with an operand that meets 17, and of one whose target has to be tested.
 pub const HIGH: u8 = 2;
@@ -127,7 +127,7 @@ fn operands_below(code: &[u8], i: usize, d: usize, limits: &[u32]) -> bool
 
 // The flag of an instruction by 17, by whether its next offset is inside the record, and by the digits of its opcode.
 fn flag_of(below: bool, inside: bool, d: usize) -> u8
-    ensures { λ r. ⌜ (r ≡ cond below (cond inside (d / 32768 % 8) (d / 262144 % 8)) 2) × (r < 8) ⌝ }
+    ensures { λ r. ⌜ (r ≡ flagBy below inside d) × (r < 8) ⌝ }
 {
     if !below {
         return HIGH;

@@ -1,9 +1,10 @@
--- Request b): a pattern in which no prefix begins an instruction is judged as by paper 01, where an instruction's first byte is its opcode.
+-- Request b): a pattern in which no prefix begins an instruction is judged as by paper 01's reading, where an instruction's first byte is its opcode;
+-- so what passes by that passes.
 -- Assumes nothing.
 use Prim.Native.Nat.{ℕ, zero, suc, _+_, _-_, _<_, suc-le-suc}
-use native.Mathlib.Nat.{add-zero, add-suc, suc-add, zero-add}
+use native.Mathlib.Nat.{add-zero, add-suc, suc-add, zero-add, le-of-suc-le-suc}
 use native.Mathlib.Omega.{arith}
-use mathlib.Core.Path.{_≡_, refl, ap, _∙_}
+use mathlib.Core.Path.{_≡_, refl, sym, ap, subst, _∙_}
 use mathlib.Core.Bool.{Bool, true, false, _&&_, not, cond}
 use mathlib.Core.List.{List, [], _∷_}
 use lib.Dec.{T, leb, ltb, eqb}
@@ -17,10 +18,11 @@ use Rattle.format.specs.Tree.{whole}
 use Rattle.format.specs.Pattern.{Record, Pattern, patternOf, recAt, blank, rlens, reach, begins, lands}
 use Rattle.format.specs.Exam.{stray, readable, allBelow, operandsBelow, leads, follows, firstAt, firstOf, at16, at1718}
 use Rattle.format.specs.Exam.{exam16, exam1718, exam19, exam20, examineRecord, examineAll, examinePattern, passing}
+use Rattle.format.proofs.Answers.{first-zero, refuse-zero}
 use Rattle.format.proofs.Prefix.{no-widening}
 use Rattle.runs.proofs.Next.{next-alone, opcode-alone}
 
--- Paper 01's examination: sizes, places where instructions begin, operands, targets
+-- Examination by paper 01's reading, with the table's roles: sizes, places where instructions begin, operands, targets
 reach01 : List ℕ → ℕ → ℕ → Bool
 reach01 [] left o = false
 reach01 (b ∷ bs) zero zero = true
@@ -52,6 +54,9 @@ lands01 c o = leb 65536 (jump01 c o) && begins01 c (jump01 c o - 65536)
 abbrev readable01 : List ℕ → ℕ → Bool
 readable01 c o = known (byte c o) && not (prefix (byte c o)) && leb (next01 c o) (length c)
 
+abbrev test16 : List ℕ → ℕ → ℕ
+test16 c o = refuse 16 (readable01 c o)
+
 abbrev tests01 : Record → ℕ → ℕ
 tests01 r o =
     first (refuse 17 (allBelow r (roles (row (byte (r .code) o))) (operandsAt01 (r .code) o)))
@@ -59,7 +64,7 @@ tests01 r o =
 
 abbrev examineRecord01 : Record → ℕ
 examineRecord01 r =
-    first (first (refuse 16 (ltb 0 (length (r .code)))) (firstAt01 (λ (o : ℕ). refuse 16 (readable01 (r .code) o)) (r .code) 0 0))
+    first (first (refuse 16 (ltb 0 (length (r .code)))) (firstAt01 (test16 (r .code)) (r .code) 0 0))
     (first (firstAt01 (tests01 r) (r .code) 0 0)
     (first (firstOf (λ (t : ℕ). refuse 19 (begins01 (r .code) t)) (r .handlers)) (refuse 20 (rising (r .lines)))))
 
@@ -79,13 +84,17 @@ rest-alone : (b : ℕ) (bs : List ℕ) → prefix b ≡ false → rest b bs ≡ 
 unfolding rest opcode
 rest-alone b bs e = rw (no-widening b e, e) (zero-add _)
 
-reach-same : (bs : List ℕ) (left : ℕ) → ((j : ℕ) → T (reach bs left j) → prefix (byte bs j) ≡ false) → (o : ℕ) → reach bs left o ≡ reach01 bs left o
+-- where no prefix begins one by both readings
+reach-same : (bs : List ℕ) (left : ℕ) → ((j : ℕ) → T (reach bs left j) → T (reach01 bs left j) → prefix (byte bs j) ≡ false)
+    → (o : ℕ) → reach bs left o ≡ reach01 bs left o
 unfolding reach reach01
 reach-same [] left h o = refl
 reach-same (b ∷ bs) zero h zero = refl
-reach-same (b ∷ bs) zero h (suc o) = reach-same bs (rest b bs) (λ j t. h (suc j) t) o ∙ ap (λ (n : ℕ). reach01 bs n o) (rest-alone b bs (h 0 tt))
+reach-same (b ∷ bs) zero h (suc o) =
+    let e = rest-alone b bs (h 0 tt tt) in
+    rw e (reach-same bs (width (kind (row b))) (λ j t u. h (suc j) (subst (λ (n : ℕ). T (reach bs n j)) (sym e) t) u) o)
 reach-same (b ∷ bs) (suc left) h zero = refl
-reach-same (b ∷ bs) (suc left) h (suc o) = reach-same bs left (λ j t. h (suc j) t) o
+reach-same (b ∷ bs) (suc left) h (suc o) = reach-same bs left (λ j t u. h (suc j) t u) o
 
 first-same : (f g : ℕ → ℕ) (bs : List ℕ) (left o : ℕ) → ((j : ℕ) → T (reach bs left j) → prefix (byte bs j) ≡ false)
     → ((j : ℕ) → T (reach bs left j) → f (o + j) ≡ g (o + j)) → firstAt f bs left o ≡ firstAt01 g bs left o
@@ -101,7 +110,7 @@ first-same f g (b ∷ bs) (suc left) o h e =
 -- and the tests answer what they answer there
 module _ (c : List ℕ) (n : NoPrefix c) where
   begins-same : (t : ℕ) → begins c t ≡ begins01 c t
-  begins-same t = reach-same c 0 n t
+  begins-same t = reach-same c 0 (λ j b u. n j b) t
 
   module _ (o : ℕ) (p : prefix (byte c o) ≡ false) where
     operands-same : operandsAt c o ≡ operandsAt01 c o
@@ -140,7 +149,7 @@ module _ (r : Record) (n : NoPrefix (r .code)) where
   unfolding examineRecord exam16 exam1718 exam19 exam20
   record-same =
       let c = r .code in
-      let a = first-same (at16 c) (λ (o : ℕ). refuse 16 (readable01 c o)) c 0 0 n (λ j t. rw zero-add (at16-same c n j (n j t))) in
+      let a = first-same (at16 c) (test16 c) c 0 0 n (λ j t. rw zero-add (at16-same c n j (n j t))) in
       let b = first-same (at1718 r) (tests01 r) c 0 0 n (λ j t. rw zero-add (tests-same j (n j t))) in
       rw (a, b, handlers-same (r .handlers))
 
@@ -158,3 +167,44 @@ pub passing-as-before : (f : List ℕ) (c : Content) → let p = patternOf f c i
     → passing f c ≡ cond (eqb (examinePattern01 (patternOf f c)) 0) (ok c) (refused (examinePattern01 (patternOf f c)))
 unfolding passing
 passing-as-before f c n = rw (judged-as-before (patternOf f c) n)
+
+-- A pattern that passes by paper 01's reading has no prefix where an instruction begins, by that reading and so by this one.
+first-zero01 : (f : ℕ → ℕ) (bs : List ℕ) (left o : ℕ) → firstAt01 f bs left o ≡ 0 → (j : ℕ) → T (reach01 bs left j) → f (o + j) ≡ 0
+unfolding reach01 firstAt01
+first-zero01 f [] left o e j t = absurd t
+first-zero01 f (b ∷ bs) zero o e zero t = rw add-zero (first-zero (f o) _ e .0)
+first-zero01 f (b ∷ bs) zero o e (suc j) t = rw (add-suc, ← suc-add) (first-zero01 f bs (width (kind (row b))) (suc o) (first-zero (f o) _ e .1) j t)
+first-zero01 f (b ∷ bs) (suc left) o e zero t = absurd t
+first-zero01 f (b ∷ bs) (suc left) o e (suc j) t = rw (add-suc, ← suc-add) (first-zero01 f bs left (suc o) e j t)
+
+no-prefix01 : (c : List ℕ) (o : ℕ) → T (readable01 c o) → prefix (byte c o) ≡ false
+no-prefix01 c o t = go (known (byte c o)) (prefix (byte c o)) t
+  where
+    go : (a p : Bool) → T (a && not p && leb (next01 c o) (length c)) → p ≡ false
+    go true true t = absurd t
+    go true false t = refl
+    go false p t = absurd t
+
+record-plain : (r : Record) → examineRecord01 r ≡ 0 → NoPrefix (r .code)
+record-plain r e o t =
+    let c = r .code in
+    let a = first-zero (first (refuse 16 (ltb 0 (length c))) (firstAt01 (test16 c) c 0 0)) _ e .0 in
+    let b = first-zero (refuse 16 (ltb 0 (length c))) _ a .1 in
+    at b o (subst T (reach-same c 0 (λ j x y. at b j y) o) t)
+  where
+    at : firstAt01 (test16 (r .code)) (r .code) 0 0 ≡ 0 → (j : ℕ) → T (begins01 (r .code) j) → prefix (byte (r .code) j) ≡ false
+    at b j u =
+        let c = r .code in
+        no-prefix01 c j (refuse-zero 15 (readable01 c j) (rw zero-add at (first-zero01 (test16 c) c 0 0 b j u)))
+
+all-plain : (rs : List Record) → examineAll01 rs ≡ 0 → (i : ℕ) → i < length rs → NoPrefix (getD rs i blank .code)
+unfolding examineAll01
+all-plain [] e i h = absurd (omega arith)
+all-plain (r ∷ rs) e zero h = record-plain r (first-zero (examineRecord01 r) _ e .0)
+all-plain (r ∷ rs) e (suc i) h = all-plain rs (first-zero (examineRecord01 r) _ e .1) i (le-of-suc-le-suc h)
+
+-- so what passed before prefixes counted passes
+pub passes-still : (p : Pattern) → examinePattern01 p ≡ 0 → examinePattern p ≡ 0
+unfolding examinePattern01
+passes-still p e =
+    judged-as-before p (all-plain p (first-zero (refuse 15 (whole (rlens p))) _ e .1)) ∙ e

@@ -3,7 +3,7 @@
 use Prim.Native.Nat.{ℕ, _+_, _-_, _*_, _≤_, _<_}
 use native.Mathlib.Omega.{arith}
 use mathlib.Core.Path.{_≡_, refl, sym, ap, _∙_, subst}
-use mathlib.Core.Bool.{Bool, true, false, cond}
+use mathlib.Core.Bool.{Bool, true, false, not, cond}
 use mathlib.Core.Option.{Option, none, some}
 use mathlib.Core.List.{List, []}
 use lib.Dec.{T, eqb}
@@ -43,11 +43,14 @@ move-part r o leave = refl
 move-part r o (caught h) = refl
 
 -- an instruction where a frame stands, and a jump there
+begun : (c : List ℕ) (o : ℕ) → T (begins c o) → T (not (stray c o)) → T (readable c o) → Entire c o
+begun c o t s r = record { inside = reach-inside c 0 o t; none = met-none (stray c o) (readable c o) s r }
+
 pub entire : {c : List ℕ} {o : ℕ} → Stands c o → Entire c o
-entire {c} {o} s = record { inside = reach-inside c 0 o (s .starts); none = met-none (stray c o) (readable c o) (s .paired) (s .reads) }
+entire {c} {o} s = begun c o (s .starts) (s .paired) (s .reads)
 
 pub entire-jump : {c : List ℕ} {o : ℕ} → Jumps c o → Entire c o
-entire-jump {c} {o} j = record { inside = reach-inside c 0 o (j .starts); none = met-none (stray c o) (readable c o) (j .paired) (j .reads) }
+entire-jump {c} {o} j = begun c o (j .starts) (j .paired) (j .reads)
 
 -- n: the next offset; x, y: the bytes of the jump's operand
 module _ {c : List ℕ} {o n x y : ℕ} (j : Jumps c o) (en : n ≡ next c o) (ex : x ≡ byte c (n - 2)) (ey : y ≡ byte c (n - 2 + 1)) where
@@ -69,7 +72,7 @@ has-target ends n t h l = absurd h
 has-target jumps n t h l = l
 has-target may n t h l = search both
 
--- r: the row that the code looked up; w: its flow
+-- b: the opcode byte that the code read; r: its row; w: the row's flow
 module _ (c : List ℕ) (o : ℕ) (r : OpRow) {b : ℕ} (eb : b ≡ opcode c o) (er : rowOf r ≡ opRow b) {w : insn-flow.Flow} (q : r .flow ≡ w) where
   flow-is : flow (rowAt c o) ≡ flowOf w
   flow-is = let e = er ∙ ap opRow eb in sym (ap (λ (v : RowView). v .flow) e) ∙ ap flowOf q
