@@ -11,10 +11,10 @@ use lib.ListN.{length}
 use borrow.Author.Tests.{le-leb, lt-leb, leb-true, leb-false, ne-eqb}
 use Rattle.format.specs.Bytes.{byte, refuse}
 use Rattle.format.specs.Insn.{Kind, Z, B, BB, S, BBB, BS, W, BSS, Flow, total, fieldsBy, width, kind, flow, size, known, prefix, lead}
-use Rattle.format.specs.Insn.{widensFirst, widensSecond, firstWidth, secondWidth, opcode, rowAt, next}
+use Rattle.format.specs.Insn.{firstWidth, secondWidth, opcode, rowAt, next}
 use Rattle.format.specs.Exam.{stray, readable, operandsBelow, at16}
 use Rattle.format.proofs.Answers.{false-true}
-use Rattle.format.proofs.Prefix.{lead-small, one-or-two, fields-small}
+use Rattle.format.proofs.Prefix.{lead-small, first-one-or-two, second-one-or-two, fields-small}
 use Rattle.runs.proofs.Next.{rest-at, next-at, next-alone, opcode-alone, opcode-behind}
 use Rattle.runs.proofs.Jumps.{readable-whole}
 use Rattle.runs.proofs.Exact.{none-met}
@@ -176,8 +176,8 @@ module _ (c : List ℕ) (o : ℕ) {d : ℕ} (h : o + 1 < length c) (p : prefix (
       let k = kind r in
       let n = few (opcode c o) in
       let g = looked-behind .digits in
-      let x : 1 + (firstWidth q - 1) ≡ firstWidth q = omega (arith, one-or-two (widensFirst q) .0) in
-      let y : 1 + (secondWidth q - 1) ≡ secondWidth q = omega (arith, one-or-two (widensSecond q) .0) in
+      let x : 1 + (firstWidth q - 1) ≡ firstWidth q = omega (arith, first-one-or-two q refl) in
+      let y : 1 + (secondWidth q - 1) ≡ secondWidth q = omega (arith, second-one-or-two q refl) in
       let t : total (fieldsBy (firstWidth q) (secondWidth q) k) ≡ width k + (firstWidth q - 1) * firstByte k + (secondWidth q - 1) * secondByte k
       = rw (x, y) at (total-wide (firstWidth q - 1) (secondWidth q - 1) k) in
       let z : d % 64 ≡ suc (width k) = size-is (byte c (o + 1)) e behind ∙ ap size (sym (opcode-behind c o p)) in

@@ -27,12 +27,18 @@ pub lead-small : (p : Bool) → cond p 1 0 ≤ 1
 lead-small true = omega arith
 lead-small false = omega arith
 
--- one or two bytes
-pub one-or-two : (w : Bool) → (1 ≤ cond w 2 1) × (cond w 2 1 ≤ 2)
+-- one or two bytes in an operand that a prefix can widen
+one-or-two : (w : Bool) → (1 ≤ cond w 2 1) × (cond w 2 1 ≤ 2)
 one-or-two true = (omega arith, omega arith)
 one-or-two false = (omega arith, omega arith)
 
--- at most seven bytes stand behind the first one
+pub first-one-or-two : (b : ℕ) {x : ℕ} → x ≡ firstWidth b → (1 ≤ x) × (x ≤ 2)
+first-one-or-two b e = let w = one-or-two (widensFirst b) in (omega (arith, w), omega (arith, w))
+
+pub second-one-or-two : (b : ℕ) {y : ℕ} → y ≡ secondWidth b → (1 ≤ y) × (y ≤ 2)
+second-one-or-two b e = let w = one-or-two (widensSecond b) in (omega (arith, w), omega (arith, w))
+
+-- at most six bytes of operands
 total-small : (x y : ℕ) (k : Kind) → x ≤ 2 → y ≤ 2 → total (fieldsBy x y k) ≤ 6
 total-small x y Z p q = omega arith
 total-small x y B p q = omega arith
@@ -44,7 +50,7 @@ total-small x y W p q = omega arith
 total-small x y BSS p q = omega arith
 
 pub fields-small : (b : ℕ) (k : Kind) → total (fieldsFrom b k) ≤ 6
-fields-small b k = total-small (firstWidth b) (secondWidth b) k (one-or-two (widensFirst b) .1) (one-or-two (widensSecond b) .1)
+fields-small b k = total-small (firstWidth b) (secondWidth b) k (first-one-or-two b refl .1) (second-one-or-two b refl .1)
 
 -- what a byte says that is none of 115 to 117
 module _ (b : ℕ) where

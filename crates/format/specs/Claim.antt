@@ -8,7 +8,7 @@ use mathlib.Core.Option.{some}
 use mathlib.Core.Bool.{not}
 use lib.Dec.{T}
 use lib.ListN.{length, getD}
-use Rattle.format.specs.Bytes.{Answer, ok, refused}
+use Rattle.format.specs.Bytes.{ok, refused}
 use Rattle.format.specs.Irep.{Rec}
 use Rattle.format.specs.Lvar.{Lvar}
 use Rattle.format.specs.File.{Content}

@@ -158,7 +158,7 @@ unfolding examineAll examineAll01
 all-same [] n = refl
 all-same (r ∷ rs) n = rw (record-same r (n 0 (omega arith)), all-same rs (λ i h. n (suc i) (suc-le-suc h)))
 
--- "the same file without prefixes is judged as before": the same number, and so the same answer for the file
+-- the same number, and so the same answer for the file
 pub judged-as-before : (p : Pattern) → ((i : ℕ) → i < length p → NoPrefix (recAt p i .code)) → examinePattern p ≡ examinePattern01 p
 unfolding examinePattern examinePattern01
 judged-as-before p n = rw (all-same p n)
@@ -203,7 +203,7 @@ all-plain [] e i h = absurd (omega arith)
 all-plain (r ∷ rs) e zero h = record-plain r (first-zero (examineRecord01 r) _ e .0)
 all-plain (r ∷ rs) e (suc i) h = all-plain rs (first-zero (examineRecord01 r) _ e .1) i (le-of-suc-le-suc h)
 
--- so what passed before prefixes counted passes
+-- so what passes by that reading passes
 pub passes-still : (p : Pattern) → examinePattern01 p ≡ 0 → examinePattern p ≡ 0
 unfolding examinePattern01
 passes-still p e =

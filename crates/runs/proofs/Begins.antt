@@ -42,7 +42,7 @@ pub begins-next : (c : List ℕ) (o : ℕ) → T (begins c o) → next c o < len
 begins-next c o t h = reach-next c 0 o t h
 
 -- and none begins before it
-reach-within : (c : List ℕ) (left o : ℕ) → o < left → reach c left o ≡ false
+pub reach-within : (c : List ℕ) (left o : ℕ) → o < left → reach c left o ≡ false
 unfolding reach
 reach-within [] left o h = refl
 reach-within (b ∷ c) zero o h = absurd (omega arith)

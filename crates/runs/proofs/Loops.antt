@@ -19,6 +19,7 @@ use Rattle.format.specs.Pattern.{reach, begins}
 use Rattle.format.specs.Exam.{firstAt}
 use native.Mathlib.Numerals.{add-one}
 use Rattle.runs.proofs.Tree.{kid-closed, span-zero, span-nil}
+use Rattle.runs.proofs.Begins.{reach-within}
 
 -- the bytes left of an instruction are passed over
 firstAt-pass : (f : ℕ → ℕ) (bs : List ℕ) (left o : ℕ) → firstAt f bs left o ≡ firstAt f (drop left bs) 0 (o + left)
@@ -48,13 +49,6 @@ reach-pass (b ∷ bs) zero o h = simp sub-zero
 reach-pass (b ∷ bs) (suc left) zero h = absurd (omega arith)
 reach-pass (b ∷ bs) (suc left) (suc o) h = rw suc-sub-suc (reach-pass bs left o (le-of-suc-le-suc h))
 
-reach-inner : (bs : List ℕ) (left o : ℕ) → o < left → reach bs left o ≡ false
-unfolding reach
-reach-inner [] left o h = refl
-reach-inner (b ∷ bs) zero o h = absurd (omega arith)
-reach-inner (b ∷ bs) (suc left) zero h = refl
-reach-inner (b ∷ bs) (suc left) (suc o) h = reach-inner bs left o (le-of-suc-le-suc h)
-
 -- one turn of a loop that reads from 0 up to o: from a place i below o, where an instruction begins
 pub reach-turn : (c : List ℕ) (i o : ℕ) → i < length c → i < o → next c i ≤ o → reach (drop i c) 0 (o - i) ≡ reach (drop (next c i) c) 0 (o - next c i)
 unfolding reach
@@ -71,7 +65,7 @@ unfolding reach
 reach-over c i o h g k =
     let w = rest (byte c i) (drop (suc i) c) in
     let d : o - i ≡ suc (o - suc i) = omega arith in
-    rw (drop-cons c i 0, d, reach-inner (drop (suc i) c) w (o - suc i) (omega arith))
+    rw (drop-cons c i 0, d, reach-within (drop (suc i) c) w (o - suc i) (omega arith))
 
 -- one turn of a loop over the records: p trees from i on
 pub span-turn : (l : List ℕ) (i p : ℕ) → i < length l → span (suc p) (drop i l) ≡ suc (span (p + getD l i 0) (drop (suc i) l))

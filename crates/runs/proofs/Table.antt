@@ -1,14 +1,14 @@
 -- Rules of the table of opcodes, each one computed test.
 -- Assumes nothing.
-use Prim.Native.Nat.{ℕ, suc, _+_, _≤_}
+use Prim.Native.Nat.{ℕ, suc, _+_}
 use mathlib.Core.Path.{_≡_, refl, sym, ap, subst}
 use mathlib.Core.Bool.{Bool, true, false, _||_, not, cond}
 use mathlib.Core.Option.{some}
 use mathlib.Core.List.{List, [], _∷_}
 use native.Mathlib.Omega.{arith}
 use lib.Dec.{T}
-use lib.ListN.{length, List·getD-eq-default}
-use Rattle.format.specs.Insn.{Z, Role, Flow, on, ends, jumps, may, NOP, Row, op, width, kind, roles, flow, table, row, operands}
+use lib.ListN.{length}
+use Rattle.format.specs.Insn.{Role, Flow, on, ends, jumps, may, Row, roles, flow, table, row, operands}
 use Rattle.format.specs.Run.{isChild, childOperand}
 use Rattle.format.proofs.Table.{by-test}
 
@@ -60,8 +60,3 @@ child-on b vs k e = go (anyChild (roles (row b))) refl (child-on-all b)
     go : (a : Bool) → anyChild (roles (row b)) ≡ a → T (not a || isOn (flow (row b))) → flow (row b) ≡ on
     go true q t = on-only _ t
     go false q t = absurd (no-child (roles (row b)) vs k (subst (λ (a : Bool). T (not a)) (sym q) tt) e)
-
--- a byte above 118 has nothing behind it
-pub width-above : (b : ℕ) → 119 ≤ b → width (kind (row b)) ≡ 0
-unfolding row table
-width-above b h = ap (λ (r : Row). width (kind r)) (List·getD-eq-default table (op NOP Z [] on) {n = b} h)

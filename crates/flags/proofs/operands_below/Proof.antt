@@ -5,8 +5,7 @@ use Prim.Native.Nat.{_+_, _/_, _%_, _≤_}
 use lib.ListN.{length}
 use borrow.Author.Tests.{not-true, not-false}
 use Rattle.format.specs.Bytes.{byte}
-use Rattle.format.specs.Insn.{widensFirst, widensSecond}
-use Rattle.format.proofs.Prefix.{one-or-two}
+use Rattle.format.proofs.Prefix.{first-one-or-two, second-one-or-two}
 use Rattle.flags.proofs.Roles.{below-read, fails-first, fails-second, left-third, first-role, second-role, third-role, all-behind}
 use borrow.Author.Needs.{needs}
 use Rattle.flags.proofs.operands_below.Statement.{statement}
@@ -16,14 +15,12 @@ use Rattle.flags.proofs.operands_below.Tie as tie
 one-two : (c : tie.After-first-width) → (1 ≤ c .first-width .result) × (c .first-width .result ≤ 2)
 one-two c =
     let a = c .before .before .before .before .args in
-    let w = one-or-two (widensFirst (byte (a .code .now) (a .i))) in
-    (omega (arith, c .first-width .ensures, w), omega (arith, c .first-width .ensures, w))
+    first-one-or-two (byte (a .code .now) (a .i)) (c .first-width .ensures)
 
 one-two-2 : (c : tie.After-second-width) → (1 ≤ c .second-width .result) × (c .second-width .result ≤ 2)
 one-two-2 c =
     let a = c .before .before .before .before .before .args in
-    let w = one-or-two (widensSecond (byte (a .code .now) (a .i))) in
-    (omega (arith, c .second-width .ensures, w), omega (arith, c .second-width .ensures, w))
+    second-one-or-two (byte (a .code .now) (a .i)) (c .second-width .ensures)
 
 operand-at-requires : tie.Need-operand-at-requires
 operand-at-requires c κs =

@@ -2,31 +2,30 @@
 -- Assumes nothing.
 use native.Mathlib.Omega.{arith}
 use Prim.Native.Nat.{_-_, _*_, _/_, _%_, _<_}
-use Rattle.format.specs.Insn.{widensFirst, widensSecond}
-use Rattle.format.proofs.Prefix.{one-or-two}
+use Rattle.format.proofs.Prefix.{first-one-or-two, second-one-or-two}
 use Rattle.flags.proofs.Values.{at-most-once}
 use borrow.Author.Needs.{needs}
 use Rattle.flags.proofs.size_behind.Statement.{statement}
 use Rattle.flags.proofs.size_behind.Tie as tie
 
 sub-x : tie.Need-sub-x
-sub-x c = omega (arith, c .first-width .ensures, one-or-two (widensFirst (c .before .args .p)))
+sub-x c = first-one-or-two (c .before .args .p) (c .first-width .ensures) .0
 
 sub-y : tie.Need-sub-y
-sub-y c = omega (arith, c .second-width .ensures, one-or-two (widensSecond (c .before .before .args .p)))
+sub-y c = second-one-or-two (c .before .before .args .p) (c .second-width .ensures) .0
 
 -- what each operand adds
 first : (c : tie.After-second-width) → (c .before .first-width .result - 1) * (c .before .before .args .d / 16777216 % 8) < 8
 first c =
     let p = c .before .before .args .p in
     at-most-once (c .before .first-width .result - 1) (c .before .before .args .d / 16777216 % 8) 8
-    (omega (arith, c .before .first-width .ensures, one-or-two (widensFirst p))) (omega arith)
+    (omega (arith, first-one-or-two p (c .before .first-width .ensures))) (omega arith)
 
 second : (c : tie.After-second-width) → (c .second-width .result - 1) * (c .before .before .args .d / 134217728 % 8) < 8
 second c =
     let p = c .before .before .args .p in
     at-most-once (c .second-width .result - 1) (c .before .before .args .d / 134217728 % 8) 8
-    (omega (arith, c .second-width .ensures, one-or-two (widensSecond p))) (omega arith)
+    (omega (arith, second-one-or-two p (c .second-width .ensures))) (omega arith)
 
 returns : tie.Need-returns
 returns c =

@@ -6,8 +6,8 @@ use mathlib.Core.Path.{_∙_}
 use lib.ListN.{length}
 use borrow.Author.Tests.{ne-eqb}
 use Rattle.format.specs.Bytes.{byte}
-use Rattle.format.specs.Insn.{prefix, widensFirst, widensSecond}
-use Rattle.format.proofs.Prefix.{lead-small, one-or-two}
+use Rattle.format.specs.Insn.{prefix}
+use Rattle.format.proofs.Prefix.{lead-small, first-one-or-two, second-one-or-two}
 use borrow.Author.Needs.{needs}
 use Rattle.moves.proofs.child_number.Statement.{statement}
 use Rattle.moves.proofs.child_number.Tie as tie
@@ -24,13 +24,12 @@ second : (c : tie.After-first-width)
 second c =
     let start = c .before .before .before .before in
     let a = start .args in
-    omega (arith, start .pre, lead-few (c .before), c .first-width .ensures, one-or-two (widensFirst (byte (a .code .now) (a .o))))
+    omega (arith, start .pre, lead-few (c .before), first-one-or-two (byte (a .code .now) (a .o)) (c .first-width .ensures))
 
 one-two : (c : tie.After-second-width) → (1 ≤ c .second-width .result) × (c .second-width .result ≤ 2)
 one-two c =
     let a = c .before .before .before .before .before .args in
-    let w = one-or-two (widensSecond (byte (a .code .now) (a .o))) in
-    (omega (arith, c .second-width .ensures, w), omega (arith, c .second-width .ensures, w))
+    second-one-or-two (byte (a .code .now) (a .o)) (c .second-width .ensures)
 
 operand-at-requires : tie.Need-operand-at-requires
 operand-at-requires c κs =
