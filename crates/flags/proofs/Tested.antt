@@ -10,7 +10,7 @@ use lib.Dec.{T, leb, ltb}
 use lib.ListN.{length}
 use borrow.Author.Tests.{le-leb, lt-leb, leb-true, leb-false, ne-eqb}
 use Rattle.format.specs.Bytes.{byte, refuse}
-use Rattle.format.specs.Insn.{Kind, Z, B, BB, S, BBB, BS, W, BSS, Flow, total, fieldsBy, width, kind, flow, size, known, prefix, lead}
+use Rattle.format.specs.Insn.{Kind, Z, BB, B, BS, BSS, BBB, S, W, Flow, total, fieldsBy, width, kind, flow, size, known, prefix, lead}
 use Rattle.format.specs.Insn.{firstWidth, secondWidth, opcode, rowAt, next}
 use Rattle.format.specs.Exam.{stray, readable, operandsBelow, at16}
 use Rattle.format.proofs.Answers.{false-true}
@@ -147,13 +147,13 @@ module _ (c : List ℕ) (o : ℕ) (p : prefix (byte c o) ≡ true) where
 -- a widened operand has one byte more
 total-wide : (x y : ℕ) (k : Kind) → total (fieldsBy (1 + x) (1 + y) k) ≡ width k + x * firstByte k + y * secondByte k
 total-wide x y Z = omega arith
-total-wide x y B = omega arith
 total-wide x y BB = omega arith
-total-wide x y S = omega arith
-total-wide x y BBB = omega arith
+total-wide x y B = omega arith
 total-wide x y BS = omega arith
-total-wide x y W = omega arith
 total-wide x y BSS = omega arith
+total-wide x y BBB = omega arith
+total-wide x y S = omega arith
+total-wide x y W = omega arith
 
 -- d: the digits of the byte behind the prefix, which have a size
 module _ (c : List ℕ) (o : ℕ) {d : ℕ} (h : o + 1 < length c) (p : prefix (byte c o) ≡ true) (e : d ≡ digitsOf (byte c (o + 1))) (s : d % 64 ≡ 0 → ⊥) where

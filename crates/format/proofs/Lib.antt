@@ -4,6 +4,7 @@ pub mod Texts
 pub mod Pool
 pub mod File
 pub mod Table
+pub mod Sizes
 pub mod Prefix
 pub mod RowsFrom
 pub mod Places

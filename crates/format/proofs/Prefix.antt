@@ -7,20 +7,20 @@ use mathlib.Core.Bool.{Bool, true, false, _&&_, cond}
 use lib.Dec.{leb}
 use lib.ListN.{length}
 use borrow.Author.Tests.{leb-true, ne-eqb}
-use Rattle.format.specs.Insn.{Kind, Z, B, BB, S, BBB, BS, W, BSS, fieldsBy, fields, total, prefix, lead}
+use Rattle.format.specs.Insn.{Kind, Z, BB, B, BS, BSS, BBB, S, W, fieldsBy, fields, total, prefix, lead}
 use Rattle.format.specs.Insn.{widensFirst, widensSecond, firstWidth, secondWidth, fieldsFrom}
 use Rattle.format.proofs.Answers.{false-true}
 
 -- a prefix changes the bytes of operands, not their number
 pub fields-length : (x y : ℕ) (k : Kind) → length (fieldsBy x y k) ≡ length (fields k)
 fields-length x y Z = refl
-fields-length x y B = refl
 fields-length x y BB = refl
-fields-length x y S = refl
-fields-length x y BBB = refl
+fields-length x y B = refl
 fields-length x y BS = refl
-fields-length x y W = refl
 fields-length x y BSS = refl
+fields-length x y BBB = refl
+fields-length x y S = refl
+fields-length x y W = refl
 
 -- no byte or one before the opcode
 pub lead-small : (p : Bool) → cond p 1 0 ≤ 1
@@ -41,13 +41,13 @@ second-one-or-two b e = let w = one-or-two (widensSecond b) in (omega (arith, w)
 -- at most six bytes of operands
 total-small : (x y : ℕ) (k : Kind) → x ≤ 2 → y ≤ 2 → total (fieldsBy x y k) ≤ 6
 total-small x y Z p q = omega arith
-total-small x y B p q = omega arith
 total-small x y BB p q = omega arith
-total-small x y S p q = omega arith
-total-small x y BBB p q = omega arith
+total-small x y B p q = omega arith
 total-small x y BS p q = omega arith
-total-small x y W p q = omega arith
 total-small x y BSS p q = omega arith
+total-small x y BBB p q = omega arith
+total-small x y S p q = omega arith
+total-small x y W p q = omega arith
 
 pub fields-small : (b : ℕ) (k : Kind) → total (fieldsFrom b k) ≤ 6
 fields-small b k = total-small (firstWidth b) (secondWidth b) k (first-one-or-two b refl .1) (second-one-or-two b refl .1)

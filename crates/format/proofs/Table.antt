@@ -8,7 +8,7 @@ use mathlib.Core.List.{List, [], _∷_}
 use lib.Dec.{T, eqb, eqb→eq}
 use lib.Ieee.Fits.{and-l, and-r}
 use lib.ListN.{length, getD}
-use Rattle.format.specs.Insn.{NOP, Kind, Z, B, BB, S, BBB, BS, W, BSS, on, Row, op, fields, width, kind, roles, table, row}
+use Rattle.format.specs.Insn.{NOP, Kind, Z, BB, B, BS, BSS, BBB, S, W, on, Row, op, fields, width, kind, roles, table, row}
 
 -- `search both` takes a passed `&&` apart
 pub ruleset both = (and-l, and-r)
@@ -38,10 +38,10 @@ roles-length b = eqb→eq _ _ (by-test arities tt b)
 -- at most five bytes stand behind an opcode byte
 pub width-small : (k : Kind) → width k ≤ 5
 width-small Z = omega arith
-width-small B = omega arith
 width-small BB = omega arith
-width-small S = omega arith
-width-small BBB = omega arith
+width-small B = omega arith
 width-small BS = omega arith
-width-small W = omega arith
 width-small BSS = omega arith
+width-small BBB = omega arith
+width-small S = omega arith
+width-small W = omega arith

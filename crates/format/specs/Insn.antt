@@ -9,20 +9,20 @@ use lib.Dec.{ltb, leb, eqb}
 use lib.ListN.{getD, drop}
 use Rattle.format.specs.Bytes.{Answer, ok, refused, has, byte, u16At, u24At}
 
--- operand kinds: B a byte, S two bytes, W three
+-- operand kinds: B a byte, S two bytes, W three; in the order in which ops.h first uses them
 pub data Kind : Type 0 where
-  Z B BB S BBB BS W BSS : Kind
+  Z BB B BS BSS BBB S W : Kind
 
 -- how many bytes each operand has, where the first operand of B, BB, BBB, BS and BSS has x and the second of BB and BBB y
 abbrev pub fieldsBy : ℕ → ℕ → Kind → List ℕ
 fieldsBy x y Z = []
-fieldsBy x y B = x ∷ []
 fieldsBy x y BB = x ∷ y ∷ []
-fieldsBy x y S = 2 ∷ []
-fieldsBy x y BBB = x ∷ y ∷ 1 ∷ []
+fieldsBy x y B = x ∷ []
 fieldsBy x y BS = x ∷ 2 ∷ []
-fieldsBy x y W = 3 ∷ []
 fieldsBy x y BSS = x ∷ 2 ∷ 2 ∷ []
+fieldsBy x y BBB = x ∷ y ∷ 1 ∷ []
+fieldsBy x y S = 2 ∷ []
+fieldsBy x y W = 3 ∷ []
 
 -- and without a prefix
 abbrev pub fields : Kind → List ℕ

@@ -9,7 +9,7 @@ use Rattle.format.specs.Insn.{OpCode, MOVE, LOADL, LOADSYM, GETGV, SETMC
 use Rattle.format.specs.Insn.{SSENDB, SEND, SEND0, SENDB, CALL, «KEY_P», KARG, RETURN, «RETURN_BLK», RETSELF, RETNIL, RETTRUE, RETFALSE, BREAK}
 use Rattle.format.specs.Insn.{ARRAY2, AREF, ASET, SYMBOL, STRING, LAMBDA, BLOCK, METHOD, CLASS, MODULE, EXEC, DEF, TDEF, SDEF, ALIAS, UNDEF}
 use Rattle.format.specs.Insn.{DEBUG, ERR, STOP, number, Kind, Z}
-use Rattle.format.specs.Insn.{B, BB, S, BBB, BS, W, BSS, Role, reg, pool, sym, child, plain, Flow, on, ends, jumps, may, Row, op}
+use Rattle.format.specs.Insn.{BB, B, BS, BSS, BBB, S, W, Role, reg, pool, sym, child, plain, Flow, on, ends, jumps, may, Row, op}
 
 abbrev pub among : List OpCode → OpCode → Bool
 among [] o = false
@@ -47,13 +47,13 @@ thirdRole o = cond (among (TDEF ∷ SDEF ∷ []) o) child plain
 -- a role for each operand that a kind has, where a second operand has the role y and a third z
 abbrev pub rolesWith : Role → Role → OpCode → Kind → List Role
 rolesWith y z o Z = []
-rolesWith y z o B = firstRole o ∷ []
 rolesWith y z o BB = firstRole o ∷ y ∷ []
-rolesWith y z o S = plain ∷ []
-rolesWith y z o BBB = firstRole o ∷ y ∷ z ∷ []
+rolesWith y z o B = firstRole o ∷ []
 rolesWith y z o BS = firstRole o ∷ y ∷ []
-rolesWith y z o W = plain ∷ []
 rolesWith y z o BSS = firstRole o ∷ y ∷ z ∷ []
+rolesWith y z o BBB = firstRole o ∷ y ∷ z ∷ []
+rolesWith y z o S = plain ∷ []
+rolesWith y z o W = plain ∷ []
 
 -- "Jumps (JMP, JMPUW, JMPIF, JMPNOT, JMPNIL)"; "JMP and JMPUW jump", the others by choice 1. "Ending: RETURN, RETURN_BLK, RETSELF, RETNIL,
 -- RETTRUE, RETFALSE, BREAK, CALL, ERR, STOP."

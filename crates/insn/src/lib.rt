@@ -1,8 +1,10 @@
 // Instructions: fetching one with its operands.
 ghost use mathlib.Core.Path.{_≡_};
-ghost use Prim.Native.Nat.{_+_, _*_};
+ghost use Prim.Native.Nat.{suc, _+_, _*_, _≤_};
+ghost use lib.ListN.{length};
 ghost use Rattle.format.specs.Insn as format;
-ghost use Rattle.insn.specs.Answers.{fetchedOf, answerOf};
+ghost use Rattle.opcode_kind.specs.Kinds.{kindOf};
+ghost use Rattle.insn.specs.Answers.{fetchedOf, answerOf, startsWith};
 pub use opcode::Flow;
 pub use opcode::Kind;
 pub use opcode::OpRow;
@@ -13,30 +15,37 @@ pub use opcode::size;
 // The operands of an instruction, by operand kind.
 pub enum Fetched {
     Z,
-    B(u8),
     BB(u8, u8),
-    BBB(u8, u8, u8),
+    B(u8),
     BS(u8, u16),
     BSS(u8, u16, u16),
+    BBB(u8, u8, u8),
     S(u16),
     W(u32),
 }
 
 impl Fetched {
+    pub fn kind(self) -> Kind
+        ensures { λ r. ⌜ kindOf r ≡ fetchedOf self .kind ⌝ }
+    {
+        match self {
+            Fetched::Z => Kind::Z,
+            Fetched::BB(_, _) => Kind::BB,
+            Fetched::B(_) => Kind::B,
+            Fetched::BS(_, _) => Kind::BS,
+            Fetched::BSS(_, _, _) => Kind::BSS,
+            Fetched::BBB(_, _, _) => Kind::BBB,
+            Fetched::S(_) => Kind::S,
+            Fetched::W(_) => Kind::W,
+        }
+    }
+
     // How many operand bytes there are.
     pub fn len(self) -> usize
         ensures { λ r. ⌜ r ≡ format.width (fetchedOf self .kind) ⌝ }
     {
-        match self {
-            Fetched::Z => 0,
-            Fetched::B(_) => 1,
-            Fetched::BB(_, _) => 2,
-            Fetched::BBB(_, _, _) => 3,
-            Fetched::BS(_, _) => 3,
-            Fetched::BSS(_, _, _) => 5,
-            Fetched::S(_) => 2,
-            Fetched::W(_) => 3,
-        }
+        let kind = self.kind();
+        kind.size() - 1
     }
 }
 
@@ -60,84 +69,60 @@ fn be24(high: u8, middle: u8, low: u8) -> u32
     ((high as u32) * 256 + (middle as u32)) * 256 + (low as u32)
 }
 
-// Z: the opcode alone.
-fn fetch_z(bin: &[u8]) -> FetchAnswer
-    ensures { λ r. ⌜ answerOf r ≡ format.fetchAs format.Z (now (bin .entry)) ⌝ }
+// BB: two bytes.
+fn fetch_bb(bin: &[u8]) -> Fetched
+    requires { ⌜ suc (format.width format.BB) ≤ length (now bin) ⌝ }
+    ensures { λ r. ⌜ fetchedOf r ≡ startsWith format.BB (now (bin .entry)) ⌝ }
 {
-    if bin.len() < 1 {
-        return FetchAnswer::Refused(24);
-    }
-    FetchAnswer::Ok(Fetched::Z)
+    Fetched::BB(bin[1], bin[2])
 }
 
 // B: a byte.
-fn fetch_b(bin: &[u8]) -> FetchAnswer
-    ensures { λ r. ⌜ answerOf r ≡ format.fetchAs format.B (now (bin .entry)) ⌝ }
+fn fetch_b(bin: &[u8]) -> Fetched
+    requires { ⌜ suc (format.width format.B) ≤ length (now bin) ⌝ }
+    ensures { λ r. ⌜ fetchedOf r ≡ startsWith format.B (now (bin .entry)) ⌝ }
 {
-    if bin.len() < 2 {
-        return FetchAnswer::Refused(24);
-    }
-    FetchAnswer::Ok(Fetched::B(bin[1]))
-}
-
-// BB: two bytes.
-fn fetch_bb(bin: &[u8]) -> FetchAnswer
-    ensures { λ r. ⌜ answerOf r ≡ format.fetchAs format.BB (now (bin .entry)) ⌝ }
-{
-    if bin.len() < 3 {
-        return FetchAnswer::Refused(24);
-    }
-    FetchAnswer::Ok(Fetched::BB(bin[1], bin[2]))
-}
-
-// BBB: three bytes.
-fn fetch_bbb(bin: &[u8]) -> FetchAnswer
-    ensures { λ r. ⌜ answerOf r ≡ format.fetchAs format.BBB (now (bin .entry)) ⌝ }
-{
-    if bin.len() < 4 {
-        return FetchAnswer::Refused(24);
-    }
-    FetchAnswer::Ok(Fetched::BBB(bin[1], bin[2], bin[3]))
+    Fetched::B(bin[1])
 }
 
 // BS: a byte and a number of two.
-fn fetch_bs(bin: &[u8]) -> FetchAnswer
-    ensures { λ r. ⌜ answerOf r ≡ format.fetchAs format.BS (now (bin .entry)) ⌝ }
+fn fetch_bs(bin: &[u8]) -> Fetched
+    requires { ⌜ suc (format.width format.BS) ≤ length (now bin) ⌝ }
+    ensures { λ r. ⌜ fetchedOf r ≡ startsWith format.BS (now (bin .entry)) ⌝ }
 {
-    if bin.len() < 4 {
-        return FetchAnswer::Refused(24);
-    }
-    FetchAnswer::Ok(Fetched::BS(bin[1], be16(bin[2], bin[3])))
+    Fetched::BS(bin[1], be16(bin[2], bin[3]))
 }
 
 // BSS: a byte and two numbers of two.
-fn fetch_bss(bin: &[u8]) -> FetchAnswer
-    ensures { λ r. ⌜ answerOf r ≡ format.fetchAs format.BSS (now (bin .entry)) ⌝ }
+fn fetch_bss(bin: &[u8]) -> Fetched
+    requires { ⌜ suc (format.width format.BSS) ≤ length (now bin) ⌝ }
+    ensures { λ r. ⌜ fetchedOf r ≡ startsWith format.BSS (now (bin .entry)) ⌝ }
 {
-    if bin.len() < 6 {
-        return FetchAnswer::Refused(24);
-    }
-    FetchAnswer::Ok(Fetched::BSS(bin[1], be16(bin[2], bin[3]), be16(bin[4], bin[5])))
+    Fetched::BSS(bin[1], be16(bin[2], bin[3]), be16(bin[4], bin[5]))
+}
+
+// BBB: three bytes.
+fn fetch_bbb(bin: &[u8]) -> Fetched
+    requires { ⌜ suc (format.width format.BBB) ≤ length (now bin) ⌝ }
+    ensures { λ r. ⌜ fetchedOf r ≡ startsWith format.BBB (now (bin .entry)) ⌝ }
+{
+    Fetched::BBB(bin[1], bin[2], bin[3])
 }
 
 // S: a number of two bytes.
-fn fetch_s(bin: &[u8]) -> FetchAnswer
-    ensures { λ r. ⌜ answerOf r ≡ format.fetchAs format.S (now (bin .entry)) ⌝ }
+fn fetch_s(bin: &[u8]) -> Fetched
+    requires { ⌜ suc (format.width format.S) ≤ length (now bin) ⌝ }
+    ensures { λ r. ⌜ fetchedOf r ≡ startsWith format.S (now (bin .entry)) ⌝ }
 {
-    if bin.len() < 3 {
-        return FetchAnswer::Refused(24);
-    }
-    FetchAnswer::Ok(Fetched::S(be16(bin[1], bin[2])))
+    Fetched::S(be16(bin[1], bin[2]))
 }
 
 // W: a number of three bytes.
-fn fetch_w(bin: &[u8]) -> FetchAnswer
-    ensures { λ r. ⌜ answerOf r ≡ format.fetchAs format.W (now (bin .entry)) ⌝ }
+fn fetch_w(bin: &[u8]) -> Fetched
+    requires { ⌜ suc (format.width format.W) ≤ length (now bin) ⌝ }
+    ensures { λ r. ⌜ fetchedOf r ≡ startsWith format.W (now (bin .entry)) ⌝ }
 {
-    if bin.len() < 4 {
-        return FetchAnswer::Refused(24);
-    }
-    FetchAnswer::Ok(Fetched::W(be24(bin[1], bin[2], bin[3])))
+    Fetched::W(be24(bin[1], bin[2], bin[3]))
 }
 
 // The instruction that starts the bytes: 24 where there are too few, 23 where the opcode byte is above 118. Further bytes are ignored.
@@ -153,14 +138,19 @@ pub fn fetch(bin: &[u8]) -> FetchAnswer
     }
     let row = op_row(b);
     let kind = row.kind;
-    match kind {
-        Kind::Z => fetch_z(bin),
-        Kind::B => fetch_b(bin),
-        Kind::BB => fetch_bb(bin),
-        Kind::BBB => fetch_bbb(bin),
-        Kind::BS => fetch_bs(bin),
-        Kind::BSS => fetch_bss(bin),
-        Kind::S => fetch_s(bin),
-        Kind::W => fetch_w(bin),
+    if bin.len() < kind.size() {
+        return FetchAnswer::Refused(24);
     }
+    FetchAnswer::Ok(
+        match kind {
+            Kind::Z => Fetched::Z,
+            Kind::BB => fetch_bb(bin),
+            Kind::B => fetch_b(bin),
+            Kind::BS => fetch_bs(bin),
+            Kind::BSS => fetch_bss(bin),
+            Kind::BBB => fetch_bbb(bin),
+            Kind::S => fetch_s(bin),
+            Kind::W => fetch_w(bin),
+        },
+    )
 }

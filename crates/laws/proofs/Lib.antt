@@ -1,4 +1,5 @@
 pub mod Table
+pub mod Sizes
 pub mod Packed
 pub mod Walk
 pub mod Audit

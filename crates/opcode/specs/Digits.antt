@@ -4,8 +4,9 @@ use Prim.Native.Nat.{ℕ, zero, suc, _+_, _*_}
 use mathlib.Core.Bool.{Bool, cond, _&&_, not}
 use lib.Dec.{eqb}
 use lib.ListN.{getD}
-use Rattle.format.specs.Insn.{Kind, Z, B, BB, BBB, BS, BSS, S, W, Role, reg, pool, sym, child, plain, Flow, on, ends, jumps, may, Row, kind, roles, flow}
+use Rattle.format.specs.Insn.{Kind, Z, BB, B, BS, BSS, BBB, S, W, Role, reg, pool, sym, child, plain, Flow, on, ends, jumps, may, Row, kind, roles, flow}
 use Rattle.format.specs.Insn.{row, size, known, prefix}
+use Rattle.format.specs.Sizes.{kindNumber}
 
 -- the roles of three operands: one that an opcode lacks is plain
 abbrev pub firstRole : Row → Role
@@ -51,44 +52,35 @@ flagLast may = 4
 abbrev pub flowAt : ℕ → ℕ → Flow
 flowAt x y = cond (eqb y 1) ends (cond (eqb y 3) jumps (cond (eqb x 1) on may))
 
-abbrev pub kindNumber : Kind → ℕ
-kindNumber Z = 0
-kindNumber B = 1
-kindNumber BB = 2
-kindNumber BBB = 3
-kindNumber BS = 4
-kindNumber BSS = 5
-kindNumber S = 6
-kindNumber W = 7
-
+-- the kind of a number, in the order of ops.h
 abbrev pub kindAt : ℕ → Kind
 kindAt zero = Z
-kindAt (suc zero) = B
-kindAt (suc (suc zero)) = BB
-kindAt (suc (suc (suc zero))) = BBB
-kindAt (suc (suc (suc (suc zero)))) = BS
-kindAt (suc (suc (suc (suc (suc zero))))) = BSS
+kindAt (suc zero) = BB
+kindAt (suc (suc zero)) = B
+kindAt (suc (suc (suc zero))) = BS
+kindAt (suc (suc (suc (suc zero)))) = BSS
+kindAt (suc (suc (suc (suc (suc zero))))) = BBB
 kindAt (suc (suc (suc (suc (suc (suc zero)))))) = S
 kindAt (suc (suc (suc (suc (suc (suc (suc x))))))) = W
 
 -- 1 where the first operand is a byte that a prefix can widen, and where the second is
 abbrev pub firstByte : Kind → ℕ
 firstByte Z = 0
-firstByte B = 1
 firstByte BB = 1
-firstByte BBB = 1
+firstByte B = 1
 firstByte BS = 1
 firstByte BSS = 1
+firstByte BBB = 1
 firstByte S = 0
 firstByte W = 0
 
 abbrev pub secondByte : Kind → ℕ
 secondByte Z = 0
-secondByte B = 0
 secondByte BB = 1
-secondByte BBB = 1
+secondByte B = 0
 secondByte BS = 0
 secondByte BSS = 0
+secondByte BBB = 1
 secondByte S = 0
 secondByte W = 0
 

@@ -38,18 +38,18 @@ pub struct OpRow {
     pub flow: Flow,
 }
 
-// Operand kinds, each with the size of its instructions.
+// Operand kinds by number, in the order of ops.h, each with the size that `Kind::size` answers.
 const Z: usize = 1;
 
-const B: usize = KIND + FIRST_BYTE + 2;
+const BB: usize = KIND + FIRST_BYTE + SECOND_BYTE + 3;
 
-const BB: usize = 2 * KIND + FIRST_BYTE + SECOND_BYTE + 3;
+const B: usize = 2 * KIND + FIRST_BYTE + 2;
 
-const BBB: usize = 3 * KIND + FIRST_BYTE + SECOND_BYTE + 4;
+const BS: usize = 3 * KIND + FIRST_BYTE + 4;
 
-const BS: usize = 4 * KIND + FIRST_BYTE + 4;
+const BSS: usize = 4 * KIND + FIRST_BYTE + 6;
 
-const BSS: usize = 5 * KIND + FIRST_BYTE + 6;
+const BBB: usize = 5 * KIND + FIRST_BYTE + SECOND_BYTE + 4;
 
 const S: usize = 6 * KIND + 3;
 
@@ -69,14 +69,6 @@ const Z_ON: usize = Z + ON;
 
 const Z_ENDS: usize = Z + ENDS;
 
-const B_REG: usize = B + REG * FIRST + ON;
-
-const B_REG_ENDS: usize = B + REG * FIRST + ENDS;
-
-const B_POOL_ENDS: usize = B + POOL * FIRST + ENDS;
-
-const B_SYM: usize = B + SYM * FIRST + ON;
-
 const BB_REG: usize = BB + REG * FIRST + ON;
 
 const BB_REG_REG: usize = BB_REG + REG * SECOND;
@@ -89,6 +81,20 @@ const BB_REG_CHILD: usize = BB_REG + CHILD * SECOND;
 
 const BB_SYM_SYM: usize = BB + SYM * FIRST + SYM * SECOND + ON;
 
+const B_REG: usize = B + REG * FIRST + ON;
+
+const B_REG_ENDS: usize = B + REG * FIRST + ENDS;
+
+const B_POOL_ENDS: usize = B + POOL * FIRST + ENDS;
+
+const B_SYM: usize = B + SYM * FIRST + ON;
+
+const BS_REG: usize = BS + REG * FIRST + ON;
+
+const BS_REG_MAY: usize = BS + REG * FIRST + MAY;
+
+const BSS_REG: usize = BSS + REG * FIRST + ON;
+
 const BBB_ON: usize = BBB + ON;
 
 const BBB_REG: usize = BBB + REG * FIRST + ON;
@@ -98,12 +104,6 @@ const BBB_REG_REG: usize = BBB_REG + REG * SECOND;
 const BBB_REG_SYM: usize = BBB_REG + SYM * SECOND;
 
 const BBB_REG_SYM_CHILD: usize = BBB_REG_SYM + CHILD * THIRD;
-
-const BS_REG: usize = BS + REG * FIRST + ON;
-
-const BS_REG_MAY: usize = BS + REG * FIRST + MAY;
-
-const BSS_REG: usize = BSS + REG * FIRST + ON;
 
 const S_JUMPS: usize = S + JUMPS;
 
@@ -260,11 +260,11 @@ fn kind_of(n: usize) -> Kind
 {
     match n {
         0 => Kind::Z,
-        1 => Kind::B,
-        2 => Kind::BB,
-        3 => Kind::BBB,
-        4 => Kind::BS,
-        5 => Kind::BSS,
+        1 => Kind::BB,
+        2 => Kind::B,
+        3 => Kind::BS,
+        4 => Kind::BSS,
+        5 => Kind::BBB,
         6 => Kind::S,
         _ => Kind::W,
     }

@@ -1,4 +1,4 @@
-// The kinds of operands, and the size of an instruction of each.
+// The kinds of operands, and the size of an instruction of each, in the order in which ops.h first uses them.
 ghost use mathlib.Core.Path.{_≡_};
 ghost use Prim.Native.Nat.{suc};
 ghost use Rattle.format.specs.Insn.{width};
@@ -7,11 +7,11 @@ ghost use Rattle.opcode_kind.specs.Kinds.{kindOf};
 // Operand kinds: B a byte, S two bytes, W three.
 pub enum Kind {
     Z,
-    B,
     BB,
-    BBB,
+    B,
     BS,
     BSS,
+    BBB,
     S,
     W,
 }
@@ -23,11 +23,11 @@ impl Kind {
     {
         match self {
             Kind::Z => 1,
-            Kind::B => 2,
             Kind::BB => 3,
-            Kind::BBB => 4,
+            Kind::B => 2,
             Kind::BS => 4,
             Kind::BSS => 6,
+            Kind::BBB => 4,
             Kind::S => 3,
             Kind::W => 4,
         }

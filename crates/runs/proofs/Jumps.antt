@@ -9,7 +9,7 @@ use lib.Dec.{T, leb→le}
 use lib.ListN.{length}
 use borrow.Author.Tests.{lt-ltb, le-ltb}
 use Rattle.format.specs.Bytes.{byte, u16At}
-use Rattle.format.specs.Insn.{Kind, Z, B, BB, S, BBB, BS, W, BSS, Row, total, fieldsBy, kind, flow, row, table}
+use Rattle.format.specs.Insn.{Kind, Z, BB, B, BS, BSS, BBB, S, W, Row, total, fieldsBy, kind, flow, row, table}
 use Rattle.format.specs.Insn.{lead, firstWidth, secondWidth, opcode, operands, rowAt, fieldsAt, operandsAt, next, lastOf, jump, target}
 use Rattle.format.specs.Pattern.{lands}
 use Rattle.format.specs.Exam.{readable, hasTarget}
@@ -22,13 +22,13 @@ use Rattle.runs.proofs.Next.{next-at}
 -- a jump has kind S or BS: one test of the table
 jumpKind : Kind → Bool
 jumpKind Z = false
-jumpKind B = false
 jumpKind BB = false
-jumpKind S = true
-jumpKind BBB = false
+jumpKind B = false
 jumpKind BS = true
-jumpKind W = false
 jumpKind BSS = false
+jumpKind BBB = false
+jumpKind S = true
+jumpKind W = false
 
 jump-test : Row → Bool
 jump-test r = not (hasTarget (flow r)) || jumpKind (kind r)
@@ -45,24 +45,24 @@ if-so false b t u = absurd u
 last-of : (k : Kind) (x y : ℕ) (c : List ℕ) (n : ℕ) → T (jumpKind k) → lastOf (operands (fieldsBy x y k) c n) ≡ u16At c (n + total (fieldsBy x y k) - 2)
 unfolding jumpKind operands lastOf
 last-of Z x y c n t = absurd t
-last-of B x y c n t = absurd t
 last-of BB x y c n t = absurd t
-last-of S x y c n t = ap (u16At c) (omega arith)
-last-of BBB x y c n t = absurd t
+last-of B x y c n t = absurd t
 last-of BS x y c n t = ap (u16At c) (omega arith)
-last-of W x y c n t = absurd t
 last-of BSS x y c n t = absurd t
+last-of BBB x y c n t = absurd t
+last-of S x y c n t = ap (u16At c) (omega arith)
+last-of W x y c n t = absurd t
 
 jump-width : (k : Kind) (x y : ℕ) → T (jumpKind k) → 2 ≤ total (fieldsBy x y k)
 unfolding jumpKind
 jump-width Z x y t = absurd t
-jump-width B x y t = absurd t
 jump-width BB x y t = absurd t
-jump-width S x y t = omega arith
-jump-width BBB x y t = absurd t
+jump-width B x y t = absurd t
 jump-width BS x y t = omega arith
-jump-width W x y t = absurd t
 jump-width BSS x y t = absurd t
+jump-width BBB x y t = absurd t
+jump-width S x y t = omega arith
+jump-width W x y t = absurd t
 
 module _ (c : List ℕ) (o : ℕ) (j : T (hasTarget (flow (rowAt c o)))) where
   is-jump : T (jumpKind (kind (rowAt c o)))

@@ -11,7 +11,7 @@ use lib.Dec.{T, eqb, eqb→eq}
 use lib.Ieee.Bits.{is-false}
 use lib.ListN.{length, getD}
 use Rattle.format.specs.Bytes.{byte}
-use Rattle.format.specs.Insn.{Kind, Z, B, BB, S, BBB, BS, W, BSS, Role, reg, pool, sym as symbol, child, plain, Row, fieldsBy, fields, width, kind, roles, table, row}
+use Rattle.format.specs.Insn.{Kind, Z, BB, B, BS, BSS, BBB, S, W, Role, reg, pool, sym as symbol, child, plain, Row, fieldsBy, fields, width, kind, roles, table, row}
 use Rattle.format.specs.Insn.{prefix, widensFirst, widensSecond, firstWidth, secondWidth, operand, operands, opcode, rowAt, fieldsAt, operandsAt}
 use Rattle.format.specs.Pattern.{Record}
 use Rattle.format.specs.Exam.{below, allBelow, operandsBelow}
@@ -44,13 +44,13 @@ has-role (x ∷ xs) (suc i) t = suc-le-suc (has-role xs i t)
 
 fields-width : (k : Kind) → length (fields k) ≤ width k
 fields-width Z = omega arith
-fields-width B = omega arith
 fields-width BB = omega arith
-fields-width S = omega arith
-fields-width BBB = omega arith
+fields-width B = omega arith
 fields-width BS = omega arith
-fields-width W = omega arith
 fields-width BSS = omega arith
+fields-width BBB = omega arith
+fields-width S = omega arith
+fields-width W = omega arith
 
 pub role-inside : (b i : ℕ) → T (numbers (getD (roles (row b)) i plain)) → i < width (kind (row b))
 role-inside b i t = omega (arith, has-role (roles (row b)) i t, roles-length b, fields-width (kind (row b)))

@@ -1,8 +1,8 @@
 -- `insn::fetch_b` meets its contract.
 -- Assumes nothing.
 use borrow.Author.Needs.{needs}
-use Rattle.format.specs.Insn.{B, operands}
-use Rattle.insn.proofs.Answers.{short, whole}
+use mathlib.Core.Path.{refl}
+use Rattle.format.specs.Insn.{operands}
 use Rattle.insn.proofs.fetch_b.Statement.{statement}
 use Rattle.insn.proofs.fetch_b.Tie as tie
 
@@ -11,6 +11,5 @@ unfolding operands
 fetch-b-spec =
     tie.close
     (tie.spec
-    (λ c. short (c .before .args .bin .now) B (c .if1 .taken))
     (λ c. search needs)
-    (λ c. whole (c .before .before .args .bin .now) B (c .before .if1 .left)))
+    (λ c. refl))

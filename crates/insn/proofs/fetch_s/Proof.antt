@@ -1,8 +1,7 @@
 -- `insn::fetch_s` meets its contract.
 -- Assumes nothing.
 use borrow.Author.Needs.{needs}
-use Rattle.format.specs.Insn.{S, operands}
-use Rattle.insn.proofs.Answers.{short, whole}
+use Rattle.format.specs.Insn.{operands}
 use Rattle.insn.proofs.fetch_s.Statement.{statement}
 use Rattle.insn.proofs.fetch_s.Tie as tie
 
@@ -11,8 +10,7 @@ unfolding operands
 fetch-s-spec =
     tie.close
     (tie.spec
-    (λ c. short (c .before .before .args .bin .now) S (c .if1 .taken))
     (λ c. search needs)
     (λ c. search needs)
     (λ c κs. search needs)
-    (λ c. rw (c .be16 .ensures) (whole (c .before .before .before .before .before .args .bin .now) S (c .before .before .before .if1 .left))))
+    (λ c. rw (c .be16 .ensures)))
