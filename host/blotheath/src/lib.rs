@@ -15,6 +15,7 @@ mod hint;
 mod identity;
 mod locate;
 mod opcode;
+mod opcodes;
 mod pattern;
 mod refusal;
 mod run;
@@ -26,7 +27,8 @@ pub use follow::{Choice, Frame, Standing, bytes_of, follow};
 pub use hint::looks_like;
 pub use identity::{DOUBT, IDENTITY, Identity, PROVED};
 pub use locate::{Place, locate};
-pub use opcode::{Flow, Role, flow, name as opcode_name, roles};
+pub use opcode::{Flow, PREFIXES, Role, flow, name as opcode_name, roles};
+pub use opcodes::Opcode;
 pub use pattern::{
     Constant, Counts, DebugFile, Entry, Handler, Pattern, Record, Sources, Span, Text, examine,
     line_at, load,

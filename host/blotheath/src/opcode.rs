@@ -10,6 +10,19 @@ pub enum Role {
     Child,
 }
 
+impl Role {
+    /// The word for an operand of this role.
+    pub fn word(self) -> &'static str {
+        match self {
+            Role::Plain => "plain",
+            Role::Register => "register",
+            Role::Constant => "constant",
+            Role::Symbol => "symbol",
+            Role::Child => "child",
+        }
+    }
+}
+
 /// Where an instruction leads by itself.
 #[derive(Debug, Clone, Copy, PartialEq, Eq)]
 pub enum Flow {
@@ -24,7 +37,7 @@ pub enum Flow {
 }
 
 /// The prefix opcodes EXT1, EXT2 and EXT3: an instruction that has one begins at it, and its opcode stands behind it.
-const PREFIXES: std::ops::RangeInclusive<u8> = 115..=117;
+pub const PREFIXES: [u8; 3] = [115, 116, 117];
 
 pub fn is_prefix(opcode: u8) -> bool {
     PREFIXES.contains(&opcode)

@@ -23,17 +23,17 @@ impl Kind {
         [Z, B, BB, S, BBB, BS, W, BSS].get(number as usize).copied()
     }
 
-    /// The bytes of each operand without a prefix.
+    /// The bytes of each operand without a prefix; the kinds in the order in which ops.h first uses them.
     fn widths(self) -> &'static [u32] {
         match self {
             Kind::Z => &[],
-            Kind::B => &[1],
             Kind::BB => &[1, 1],
-            Kind::S => &[2],
-            Kind::BBB => &[1, 1, 1],
+            Kind::B => &[1],
             Kind::BS => &[1, 2],
-            Kind::W => &[3],
             Kind::BSS => &[1, 2, 2],
+            Kind::BBB => &[1, 1, 1],
+            Kind::S => &[2],
+            Kind::W => &[3],
         }
     }
 
@@ -56,6 +56,13 @@ impl Kind {
     }
 }
 
+/// A kind by its name in ops.h.
+impl std::fmt::Display for Kind {
+    fn fmt(&self, f: &mut std::fmt::Formatter) -> std::fmt::Result {
+        write!(f, "{self:?}")
+    }
+}
+
 /// An instruction of a record.
 #[derive(Debug, Clone, Copy, PartialEq, Eq)]
 pub struct Step {
@@ -68,7 +75,20 @@ pub struct Step {
     pub next: u32,
 }
 
+/// As many zeros as the operands of any kind have bytes behind any prefix.
+const ZEROS: [u8; 6] = [0; 6];
+
 impl Step {
+    /// An opcode with zeros for its operands, fetched by itself or read behind a prefix; none where that is refused.
+    pub(crate) fn of_zeros(prefix: Option<u8>, opcode: u8) -> Option<Step> {
+        let code = [&[opcode], &ZEROS[..]].concat();
+        let read = match prefix {
+            None => fetch(None, opcode, &code, 0),
+            Some(prefix) => read_behind(prefix, &[&[prefix], &code[..]].concat(), 0),
+        };
+        read.ok()
+    }
+
     /// The opcode's name, with that of its prefix before it: `EXT2 STRING`.
     pub fn name(&self) -> String {
         let opcode = name(self.opcode).unwrap_or_default();

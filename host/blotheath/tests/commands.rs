@@ -384,6 +384,7 @@ fn help_and_usage() {
         &["help"],
         &[],
         &["help", "follow"],
+        &["help", "opcodes"],
         &["steps", "--help"],
     ] {
         let ran = run(words);
@@ -396,6 +397,7 @@ fn help_and_usage() {
         &["load"],
         &["load", "--each", "a"],
         &["follow", "a", "fly"],
+        &["opcodes", "a"],
     ] {
         let ran = run(words);
         assert_eq!(ran.status, 2, "{words:?}");

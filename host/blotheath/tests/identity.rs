@@ -82,6 +82,7 @@ fn json_of_every_command_tells_it() {
         &["load", "--json", sample],
         &["steps", "--json", sample],
         &["follow", "--json", sample, "go"],
+        &["opcodes", "--json"],
     ] {
         let value = parse(&run(words).out);
         assert_eq!(value.get("proved").is_true(), PROVED);

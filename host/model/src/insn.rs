@@ -16,17 +16,17 @@ pub enum Kind {
 }
 
 impl Kind {
-    /// "Sizes with the opcode byte: Z 1, B 2, BB 3, S 3, BBB 4, BS 4, W 4, BSS 6."
+    /// "Sizes with the opcode byte: Z 1, B 2, BB 3, S 3, BBB 4, BS 4, W 4, BSS 6." Here they stand in ops.h's order.
     pub fn size(self) -> usize {
         match self {
             Kind::Z => 1,
-            Kind::B => 2,
             Kind::BB => 3,
-            Kind::S => 3,
-            Kind::BBB => 4,
+            Kind::B => 2,
             Kind::BS => 4,
-            Kind::W => 4,
             Kind::BSS => 6,
+            Kind::BBB => 4,
+            Kind::S => 3,
+            Kind::W => 4,
         }
     }
 
@@ -46,13 +46,13 @@ impl Kind {
     fn own_widths(self) -> &'static [usize] {
         match self {
             Kind::Z => &[],
-            Kind::B => &[1],
             Kind::BB => &[1, 1],
-            Kind::S => &[2],
-            Kind::BBB => &[1, 1, 1],
+            Kind::B => &[1],
             Kind::BS => &[1, 2],
-            Kind::W => &[3],
             Kind::BSS => &[1, 2, 2],
+            Kind::BBB => &[1, 1, 1],
+            Kind::S => &[2],
+            Kind::W => &[3],
         }
     }
 }
@@ -357,3 +357,48 @@ pub const OPCODES: [Opcode; 119] = [
     opcode("EXT3", Kind::Z),
     opcode("STOP", Kind::Z),
 ];
+
+#[cfg(test)]
+mod tests {
+    use super::*;
+    use crate::examine::step_at;
+
+    /// The bytes of an instruction of zeros, and more zeros behind it.
+    fn code(prefix: Option<u8>, opcode: u8) -> Vec<u8> {
+        let first: Vec<u8> = prefix.into_iter().chain([opcode]).collect();
+        [&first[..], &[0; 8]].concat()
+    }
+
+    /// Every opcode with its byte.
+    fn all() -> impl Iterator<Item = (u8, &'static Opcode)> {
+        (0..).zip(&OPCODES)
+    }
+
+    #[test]
+    fn sizes_are_the_opcode_byte_and_the_operands() {
+        for (byte, opcode) in all() {
+            let size = opcode.kind.size();
+            assert_eq!(size, 1 + opcode.kind.own_widths().iter().sum::<usize>());
+            let code = code(None, byte);
+            assert_eq!(fetch(&code[..size - 1]), Err(24), "{}", opcode.name);
+            assert!(fetch(&code[..size]).is_ok(), "{}", opcode.name);
+        }
+    }
+
+    /// "paper 01's size, plus one for a prefix and each operand it widens"
+    #[test]
+    fn sizes_behind_prefixes() {
+        for (byte, opcode) in all().filter(|(byte, _)| !is_prefix(*byte)) {
+            for prefix in EXT1..=EXT3 {
+                let kind = opcode.kind;
+                let widened = [widens_first(prefix, kind), widens_second(prefix, kind)];
+                let widened = widened.into_iter().filter(|widens| *widens).count();
+                let size = kind.size() + 1 + widened;
+                let code = code(Some(prefix), byte);
+                let read = |length: usize| step_at(&code[..length], 0).map(|step| step.next);
+                assert_eq!(read(code.len()), Ok(size), "{prefix} {}", opcode.name);
+                assert!((2..size).all(|length| read(length) == Err(16)));
+            }
+        }
+    }
+}

@@ -39,6 +39,9 @@ pub enum Command {
         source: Option<PathBuf>,
         force: bool,
     },
+    Opcodes {
+        json: bool,
+    },
 }
 
 /// The words behind a command, sorted into paths and options.
@@ -55,12 +58,13 @@ struct Words {
 }
 
 /// The options that each command has.
-const OPTIONS: [(&str, &[&str]); 5] = [
+const OPTIONS: [(&str, &[&str]); 6] = [
     ("examine", &["--json"]),
     ("load", &["--json", "--all"]),
     ("steps", &["--json", "--all", "--source"]),
     ("follow", &["--json", "--each", "--source"]),
     ("report", &["-o", "--output", "--source", "--force"]),
+    ("opcodes", &["--json"]),
 ];
 
 /// The options that have a value behind them.
@@ -219,6 +223,12 @@ fn option<'a>(
 
 fn build(name: &str, words: Words) -> Result<Command, String> {
     let mut plain = words.plain.into_iter();
+    if name == "opcodes" {
+        return match plain.next() {
+            Some(_) => Err(format!("{name} takes no file")),
+            None => Ok(Command::Opcodes { json: words.json }),
+        };
+    }
     let Some(path) = plain.next().map(PathBuf::from) else {
         return Err(format!("{name} has no file to work on"));
     };
@@ -303,6 +313,9 @@ mod tests {
         ] {
             assert_eq!(parse(line), report(), "{line}");
         }
+        for (line, json) in [("opcodes", false), ("opcodes --json", true)] {
+            assert_eq!(parse(line), Ok(Command::Opcodes { json }), "{line}");
+        }
     }
 
     #[test]
@@ -312,6 +325,7 @@ mod tests {
             ("reprot a", "; did you mean report?"),
             ("laod a", "; did you mean load?"),
             ("help stesp", "; did you mean steps?"),
+            ("opcode", "; did you mean opcodes?"),
             ("--versoin", "; did you mean --version?"),
             ("load --jsn a", "; did you mean --json?"),
             ("report a --ouput=b", "; did you mean --output?"),
@@ -343,6 +357,9 @@ mod tests {
             "load --json=yes a",
             "load --source a b",
             "report a b",
+            "opcodes a",
+            "opcodes -",
+            "opcodes --all",
             "help look",
         ] {
             assert!(parse(line).is_err(), "{line}");

@@ -96,6 +96,23 @@ Example
     blotheath report oval.mrb -o oval.html --source oval.rb
 ";
 
+const OPCODES: &str = "\
+blotheath opcodes [--json]
+
+One line for each opcode, in the order of mruby's ops.h: its byte, its name, its kind of operands, the bytes of its
+instruction alone and behind each prefix, what its operands name, and where a run goes from it. A prefix adds one byte,
+and one for each operand that it widens; a prefix behind a prefix is refused by 25. An operand that names a register,
+constant, symbol or child that the record does not have is refused by 17, a jump or a step that leads to where no
+instruction begins by 18; a plain operand may be any number. The kinds are the proved archive's answers; the rest is
+this program's own, and tests hold all but the names against what the archive fetches, examines and follows.
+
+In JSON \"behind\" has the sizes by the prefix's byte; they are null for a prefix.
+
+Examples
+    blotheath opcodes
+    blotheath opcodes --json | jq '.opcodes[] | select(.kind == \"BB\")'
+";
+
 /// Writes the help on everything, or on one command.
 pub fn write(out: &mut dyn Write, topic: Option<&str>) -> io::Result<Status> {
     let text = match topic {
@@ -104,6 +121,7 @@ pub fn write(out: &mut dyn Write, topic: Option<&str>) -> io::Result<Status> {
         Some("steps") => STEPS,
         Some("follow") => FOLLOW,
         Some("report") => REPORT,
+        Some("opcodes") => OPCODES,
         _ => GENERAL,
     };
     out.write_all(text.as_bytes())?;

@@ -237,7 +237,7 @@ impl Tables<'_> {
 }
 
 /// One line of cells below their headings.
-fn aligned(headings: &[&str], widths: &[usize], cells: &[String]) -> String {
+pub fn aligned(headings: &[&str], widths: &[usize], cells: &[String]) -> String {
     let mut line = String::new();
     for (place, ((heading, width), cell)) in headings.iter().zip(widths).zip(cells).enumerate() {
         line += "  ";

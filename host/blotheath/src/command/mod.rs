@@ -14,6 +14,7 @@ mod labels;
 mod lines;
 mod load;
 mod meaning;
+mod opcodes;
 mod report;
 mod sha256;
 mod source;
@@ -81,6 +82,7 @@ pub fn run(words: &[OsString]) -> io::Result<Status> {
             let (output, source) = (output.as_deref(), source.as_deref());
             report::run(&mut out, &path, output, source, force)
         }
+        Command::Opcodes { json } => opcodes::run(&mut out, style, json),
     }?;
     out.flush()?;
     Ok(status)

@@ -180,11 +180,11 @@ fn search_step(record: &Record, step: &Step, begins: &Begins) -> Option<Found> {
 fn search_operands(record: &Record, step: &Step) -> Option<Found> {
     let mut operands = step.with_roles().enumerate();
     operands.find_map(|(place, (operand, role))| {
-        let (number, thing) = known(record, role)?;
+        let number = known(record, role)?;
         if operand < number {
             return None;
         }
-        let (ordinal, name) = (ORDINALS[place], step.name());
+        let (ordinal, name, thing) = (ORDINALS[place], step.name(), role.word());
         Some(Found {
             refusal: 17,
             section: "IREP",
@@ -197,14 +197,14 @@ fn search_operands(record: &Record, step: &Step) -> Option<Found> {
     })
 }
 
-/// How many things of a role a record has, and the word for one; a plain operand names none.
-fn known(record: &Record, role: Role) -> Option<(u32, &'static str)> {
+/// How many things of a role a record has; a plain operand names none.
+fn known(record: &Record, role: Role) -> Option<u32> {
     match role {
         Role::Plain => None,
-        Role::Register => Some((record.nregs, "register")),
-        Role::Constant => Some((record.constants.number, "constant")),
-        Role::Symbol => Some((record.symbols.number, "symbol")),
-        Role::Child => Some((record.rlen, "child")),
+        Role::Register => Some(record.nregs),
+        Role::Constant => Some(record.constants.number),
+        Role::Symbol => Some(record.symbols.number),
+        Role::Child => Some(record.rlen),
     }
 }
 

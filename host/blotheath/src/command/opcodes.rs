@@ -1,0 +1,118 @@
+//! `blotheath opcodes`: each opcode with its sizes, a page to hold beside mruby's ops.h.
+
+use super::json::Json;
+use super::load::aligned;
+use super::style::Style;
+use super::{Status, identity};
+use blotheath::{Flow, Opcode, PREFIXES, Role};
+use std::io::{self, Write};
+
+/// What stands above the columns.
+const ABOUT: &str = "\
+Sizes are the bytes of a whole instruction, its opcode and its prefix counted. A prefix adds one
+byte, and one for each operand that it widens; a prefix behind a prefix is refused by 25 (-).
+";
+
+/// The headings; one that begins with `>` stands above numbers.
+const HEADINGS: [&str; 9] = [
+    ">byte", "name", "kind", ">size", ">EXT1", ">EXT2", ">EXT3", "operands", "run",
+];
+
+pub fn run(out: &mut dyn Write, style: Style, json: bool) -> io::Result<Status> {
+    match json {
+        true => write_json(out)?,
+        false => write(out, style)?,
+    }
+    Ok(Status::Passed)
+}
+
+fn write(out: &mut dyn Write, style: Style) -> io::Result<()> {
+    let heads = HEADINGS.map(|heading| heading.trim_start_matches('>').to_owned());
+    let rows: Vec<Cells> = Opcode::all().map(|opcode| cells(&opcode)).collect();
+    let widths = widths(&heads, &rows);
+    let line = |cells: &Cells| aligned(&HEADINGS, &widths, cells);
+    writeln!(out, "{ABOUT}")?;
+    writeln!(out, "{}", style.dim(&line(&heads)))?;
+    rows.iter()
+        .try_for_each(|row| writeln!(out, "{}", line(row)))
+}
+
+/// The cells of a line.
+type Cells = [String; HEADINGS.len()];
+
+fn cells(opcode: &Opcode) -> Cells {
+    let shown = |size: Option<u32>| size.map_or("-".to_owned(), |size| size.to_string());
+    let [ext1, ext2, ext3] = opcode.behind.map(shown);
+    [
+        opcode.byte.to_string(),
+        opcode.name.to_owned(),
+        opcode.kind.to_string(),
+        opcode.size.to_string(),
+        ext1,
+        ext2,
+        ext3,
+        role_words(opcode).join(", "),
+        flow_word(opcode).to_owned(),
+    ]
+}
+
+/// How wide the widest cell below each heading is, or the heading.
+fn widths(heads: &Cells, rows: &[Cells]) -> [usize; HEADINGS.len()] {
+    std::array::from_fn(|place| {
+        let widest = rows.iter().map(|cells| cells[place].len()).max();
+        widest.unwrap_or(0).max(heads[place].len())
+    })
+}
+
+/// The words for the operands, those that `steps` has in JSON.
+fn role_words(opcode: &Opcode) -> Vec<&'static str> {
+    let word = |(place, role): (usize, &Role)| match opcode.distance == Some(place) {
+        true => "jump",
+        false => role.word(),
+    };
+    opcode.roles.iter().enumerate().map(word).collect()
+}
+
+/// The words for where a run goes from an instruction.
+fn flow_word(opcode: &Opcode) -> &'static str {
+    match opcode.flow {
+        Some(Flow::Next) => "goes on",
+        Some(Flow::Jump) => "jumps",
+        Some(Flow::MayJump) => "goes on or jumps",
+        Some(Flow::Ends) => "ends",
+        None => "prefix",
+    }
+}
+
+fn write_json(out: &mut dyn Write) -> io::Result<()> {
+    let mut json = Json::new(out);
+    json.object(|json| {
+        identity::members(json)?;
+        json.key("opcodes")?.array(|json| {
+            for opcode in Opcode::all() {
+                json.line()?;
+                json.object(|json| members(json, &opcode))?;
+            }
+            Ok(())
+        })
+    })?;
+    json.end()
+}
+
+fn members(json: &mut Json, opcode: &Opcode) -> io::Result<()> {
+    json.key("opcode")?.number(opcode.byte)?;
+    json.key("name")?.string(opcode.name)?;
+    json.key("kind")?.string(&opcode.kind.to_string())?;
+    json.key("size")?.number(opcode.size)?;
+    json.key("behind")?.object(|json| {
+        for (prefix, size) in PREFIXES.iter().zip(opcode.behind) {
+            json.key(&prefix.to_string())?.optional(size)?;
+        }
+        Ok(())
+    })?;
+    json.key("roles")?.array(|json| {
+        let mut words = role_words(opcode).into_iter();
+        words.try_for_each(|word| json.string(word))
+    })?;
+    json.key("flow")?.string(flow_word(opcode))
+}
