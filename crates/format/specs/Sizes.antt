@@ -1,6 +1,6 @@
 -- Sizes beside ops.h: the operand kinds in that file's order, paper 01's size of each, and what each prefix widens, as lists: a second rendering of the
 -- bytes of operands in Insn. Paper 02, e): "Each opcode byte, and each but 115 to 117 behind a prefix, is proved to have paper 01's size, plus one for
--- a prefix and each operand it widens." laws/proofs/Sizes has the computed test that the two agree.
+-- a prefix and each operand it widens." proofs/Sizes has the computed test that the two agree.
 -- Assumes nothing.
 use Prim.Native.Nat.{ℕ, _+_}
 use mathlib.Core.Bool.{Bool, false, _||_, _&&_, cond}

@@ -7,12 +7,20 @@ use native.Mathlib.Nat.{sub-zero}
 use native.Mathlib.Omega.{arith}
 use lib.ListN.{length}
 use borrow.Author.Tests.{lt-ltb, le-ltb, lt-leb, le-leb}
-use Rattle.format.specs.Bytes.{ok, refused, byte}
-use Rattle.format.specs.Insn.{Kind, width, kind, row, fetchAs, fetch}
-use Rattle.insn.specs.Answers.{startsWith}
+use Rattle.format.specs.Bytes.{Answer, ok, refused, byte}
+use Rattle.format.specs.Insn.{Kind, Insn, insn, fields, width, kind, row, operands, fetchAs, fetch}
 
 module _ (c : List ℕ) where
-  -- no byte; an opcode byte above 118; an opcode of a kind, with too few bytes and with enough
+  -- by operand kind, whose size is n: too few bytes, and enough
+  pub short : (k : Kind) {n : ℕ} → n ≡ suc (width k) → length c < n → refused 24 ≡ fetchAs k c
+  unfolding fetchAs
+  short k e h = rw (sub-zero, lt-leb (suc (width k)) (length c) (omega arith))
+
+  pub whole : (k : Kind) {n : ℕ} → n ≡ suc (width k) → n ≤ length c → ok (insn k (operands (fields k) c 1)) ≡ fetchAs k c
+  unfolding fetchAs
+  whole k e h = rw (sub-zero, le-leb (suc (width k)) (length c) (omega arith))
+
+  -- no byte; an opcode byte above 118; an opcode of a kind
   pub empty : length c < 1 → refused 24 ≡ fetch c
   unfolding fetch
   empty h = rw (sub-zero, lt-leb _ _ h)
@@ -21,11 +29,6 @@ module _ (c : List ℕ) where
   unfolding fetch
   unknown h t = rw (sub-zero, le-leb _ _ h, le-ltb _ _ t)
 
-  module _ (k : Kind) (h : 1 ≤ length c) (t : byte c 0 ≤ 118) (e : kind (row (byte c 0)) ≡ k) where
-    pub short : length c < suc (width k) → refused 24 ≡ fetch c
-    unfolding fetch fetchAs
-    short l = rw (sub-zero, le-leb _ _ h, lt-ltb (byte c 0) 119 (omega arith), e, lt-leb _ _ l)
-
-    pub whole : suc (width k) ≤ length c → ok (startsWith k c) ≡ fetch c
-    unfolding fetch fetchAs
-    whole l = rw (sub-zero, le-leb _ _ h, lt-ltb (byte c 0) 119 (omega arith), e, le-leb _ _ l)
+  pub fetched : {a : Answer Insn} (k : Kind) → 1 ≤ length c → byte c 0 ≤ 118 → kind (row (byte c 0)) ≡ k → a ≡ fetchAs k c → a ≡ fetch c
+  unfolding fetch
+  fetched k h t e q = rw (sub-zero, le-leb _ _ h, lt-ltb (byte c 0) 119 (omega arith), e) q

@@ -1,7 +1,6 @@
 -- What fetch answers, case by case, in the format's terms.
 -- Assumes nothing.
-use Prim.Native.Nat.{ℕ}
-use mathlib.Core.List.{List, [], _∷_}
+use mathlib.Core.List.{[], _∷_}
 use Rattle.format.specs.Bytes.{Answer, ok, refused}
 use Rattle.format.specs.Insn as format
 use Rattle.insn.specs.declared.Fetched.{Fetched}
@@ -18,10 +17,6 @@ fetchedOf (BSS a s t) = format.insn format.BSS (a ∷ s ∷ t ∷ [])
 fetchedOf (BBB a b c) = format.insn format.BBB (a ∷ b ∷ c ∷ [])
 fetchedOf (S s) = format.insn format.S (s ∷ [])
 fetchedOf (W w) = format.insn format.W (w ∷ [])
-
--- the instruction of kind k that starts the bytes c
-abbrev pub startsWith : format.Kind → List ℕ → format.Insn
-startsWith k c = format.insn k (format.operands (format.fields k) c 1)
 
 abbrev pub answerOf : FetchAnswer → Answer format.Insn
 answerOf (Ok f) = ok (fetchedOf f)

@@ -1,10 +1,9 @@
 // Instructions: fetching one with its operands.
 ghost use mathlib.Core.Path.{_≡_};
-ghost use Prim.Native.Nat.{suc, _+_, _*_, _≤_};
-ghost use lib.ListN.{length};
+ghost use Prim.Native.Nat.{_+_, _*_};
 ghost use Rattle.format.specs.Insn as format;
 ghost use Rattle.opcode_kind.specs.Kinds.{kindOf};
-ghost use Rattle.insn.specs.Answers.{fetchedOf, answerOf, startsWith};
+ghost use Rattle.insn.specs.Answers.{fetchedOf, answerOf};
 pub use opcode::Flow;
 pub use opcode::Kind;
 pub use opcode::OpRow;
@@ -69,60 +68,84 @@ fn be24(high: u8, middle: u8, low: u8) -> u32
     ((high as u32) * 256 + (middle as u32)) * 256 + (low as u32)
 }
 
-// BB: two bytes.
-fn fetch_bb(bin: &[u8]) -> Fetched
-    requires { ⌜ suc (format.width format.BB) ≤ length (now bin) ⌝ }
-    ensures { λ r. ⌜ fetchedOf r ≡ startsWith format.BB (now (bin .entry)) ⌝ }
+// Z: the opcode alone.
+fn fetch_z(bin: &[u8]) -> FetchAnswer
+    ensures { λ r. ⌜ answerOf r ≡ format.fetchAs format.Z (now (bin .entry)) ⌝ }
 {
-    Fetched::BB(bin[1], bin[2])
+    if bin.len() < Kind::Z.size() {
+        return FetchAnswer::Refused(24);
+    }
+    FetchAnswer::Ok(Fetched::Z)
+}
+
+// BB: two bytes.
+fn fetch_bb(bin: &[u8]) -> FetchAnswer
+    ensures { λ r. ⌜ answerOf r ≡ format.fetchAs format.BB (now (bin .entry)) ⌝ }
+{
+    if bin.len() < Kind::BB.size() {
+        return FetchAnswer::Refused(24);
+    }
+    FetchAnswer::Ok(Fetched::BB(bin[1], bin[2]))
 }
 
 // B: a byte.
-fn fetch_b(bin: &[u8]) -> Fetched
-    requires { ⌜ suc (format.width format.B) ≤ length (now bin) ⌝ }
-    ensures { λ r. ⌜ fetchedOf r ≡ startsWith format.B (now (bin .entry)) ⌝ }
+fn fetch_b(bin: &[u8]) -> FetchAnswer
+    ensures { λ r. ⌜ answerOf r ≡ format.fetchAs format.B (now (bin .entry)) ⌝ }
 {
-    Fetched::B(bin[1])
+    if bin.len() < Kind::B.size() {
+        return FetchAnswer::Refused(24);
+    }
+    FetchAnswer::Ok(Fetched::B(bin[1]))
 }
 
 // BS: a byte and a number of two.
-fn fetch_bs(bin: &[u8]) -> Fetched
-    requires { ⌜ suc (format.width format.BS) ≤ length (now bin) ⌝ }
-    ensures { λ r. ⌜ fetchedOf r ≡ startsWith format.BS (now (bin .entry)) ⌝ }
+fn fetch_bs(bin: &[u8]) -> FetchAnswer
+    ensures { λ r. ⌜ answerOf r ≡ format.fetchAs format.BS (now (bin .entry)) ⌝ }
 {
-    Fetched::BS(bin[1], be16(bin[2], bin[3]))
+    if bin.len() < Kind::BS.size() {
+        return FetchAnswer::Refused(24);
+    }
+    FetchAnswer::Ok(Fetched::BS(bin[1], be16(bin[2], bin[3])))
 }
 
 // BSS: a byte and two numbers of two.
-fn fetch_bss(bin: &[u8]) -> Fetched
-    requires { ⌜ suc (format.width format.BSS) ≤ length (now bin) ⌝ }
-    ensures { λ r. ⌜ fetchedOf r ≡ startsWith format.BSS (now (bin .entry)) ⌝ }
+fn fetch_bss(bin: &[u8]) -> FetchAnswer
+    ensures { λ r. ⌜ answerOf r ≡ format.fetchAs format.BSS (now (bin .entry)) ⌝ }
 {
-    Fetched::BSS(bin[1], be16(bin[2], bin[3]), be16(bin[4], bin[5]))
+    if bin.len() < Kind::BSS.size() {
+        return FetchAnswer::Refused(24);
+    }
+    FetchAnswer::Ok(Fetched::BSS(bin[1], be16(bin[2], bin[3]), be16(bin[4], bin[5])))
 }
 
 // BBB: three bytes.
-fn fetch_bbb(bin: &[u8]) -> Fetched
-    requires { ⌜ suc (format.width format.BBB) ≤ length (now bin) ⌝ }
-    ensures { λ r. ⌜ fetchedOf r ≡ startsWith format.BBB (now (bin .entry)) ⌝ }
+fn fetch_bbb(bin: &[u8]) -> FetchAnswer
+    ensures { λ r. ⌜ answerOf r ≡ format.fetchAs format.BBB (now (bin .entry)) ⌝ }
 {
-    Fetched::BBB(bin[1], bin[2], bin[3])
+    if bin.len() < Kind::BBB.size() {
+        return FetchAnswer::Refused(24);
+    }
+    FetchAnswer::Ok(Fetched::BBB(bin[1], bin[2], bin[3]))
 }
 
 // S: a number of two bytes.
-fn fetch_s(bin: &[u8]) -> Fetched
-    requires { ⌜ suc (format.width format.S) ≤ length (now bin) ⌝ }
-    ensures { λ r. ⌜ fetchedOf r ≡ startsWith format.S (now (bin .entry)) ⌝ }
+fn fetch_s(bin: &[u8]) -> FetchAnswer
+    ensures { λ r. ⌜ answerOf r ≡ format.fetchAs format.S (now (bin .entry)) ⌝ }
 {
-    Fetched::S(be16(bin[1], bin[2]))
+    if bin.len() < Kind::S.size() {
+        return FetchAnswer::Refused(24);
+    }
+    FetchAnswer::Ok(Fetched::S(be16(bin[1], bin[2])))
 }
 
 // W: a number of three bytes.
-fn fetch_w(bin: &[u8]) -> Fetched
-    requires { ⌜ suc (format.width format.W) ≤ length (now bin) ⌝ }
-    ensures { λ r. ⌜ fetchedOf r ≡ startsWith format.W (now (bin .entry)) ⌝ }
+fn fetch_w(bin: &[u8]) -> FetchAnswer
+    ensures { λ r. ⌜ answerOf r ≡ format.fetchAs format.W (now (bin .entry)) ⌝ }
 {
-    Fetched::W(be24(bin[1], bin[2], bin[3]))
+    if bin.len() < Kind::W.size() {
+        return FetchAnswer::Refused(24);
+    }
+    FetchAnswer::Ok(Fetched::W(be24(bin[1], bin[2], bin[3])))
 }
 
 // The instruction that starts the bytes: 24 where there are too few, 23 where the opcode byte is above 118. Further bytes are ignored.
@@ -138,19 +161,14 @@ pub fn fetch(bin: &[u8]) -> FetchAnswer
     }
     let row = op_row(b);
     let kind = row.kind;
-    if bin.len() < kind.size() {
-        return FetchAnswer::Refused(24);
+    match kind {
+        Kind::Z => fetch_z(bin),
+        Kind::BB => fetch_bb(bin),
+        Kind::B => fetch_b(bin),
+        Kind::BS => fetch_bs(bin),
+        Kind::BSS => fetch_bss(bin),
+        Kind::BBB => fetch_bbb(bin),
+        Kind::S => fetch_s(bin),
+        Kind::W => fetch_w(bin),
     }
-    FetchAnswer::Ok(
-        match kind {
-            Kind::Z => Fetched::Z,
-            Kind::BB => fetch_bb(bin),
-            Kind::B => fetch_b(bin),
-            Kind::BS => fetch_bs(bin),
-            Kind::BSS => fetch_bss(bin),
-            Kind::BBB => fetch_bbb(bin),
-            Kind::S => fetch_s(bin),
-            Kind::W => fetch_w(bin),
-        },
-    )
 }
