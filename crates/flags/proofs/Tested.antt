@@ -14,7 +14,7 @@ use Rattle.format.specs.Insn.{Kind, Z, BB, B, BS, BSS, BBB, S, W, Flow, total, 
 use Rattle.format.specs.Insn.{firstWidth, secondWidth, opcode, rowAt, next}
 use Rattle.format.specs.Exam.{stray, readable, operandsBelow, at16}
 use Rattle.format.proofs.Answers.{false-true}
-use Rattle.format.proofs.Prefix.{lead-small, first-one-or-two, second-one-or-two, fields-small}
+use Rattle.format.proofs.Prefix.{at-most-one, first-one-or-two, second-one-or-two, fields-small}
 use Rattle.runs.proofs.Next.{rest-at, next-at, next-alone, opcode-alone, opcode-behind}
 use Rattle.runs.proofs.Jumps.{readable-whole}
 use Rattle.runs.proofs.Exact.{none-met}
@@ -218,7 +218,7 @@ passed-here l c o h e s k q = record { none = none-here c o h e s k; next-is = n
 
 module _ (l c : List ℕ) (o : ℕ) {d : ℕ} (e : d ≡ testedAt l c o) where
   size-small : sizeAt c o < 64
-  size-small = omega (arith, rest-at c o, lead-small (prefix (byte c o)), fields-small (byte c o) (kind (rowAt c o)))
+  size-small = omega (arith, rest-at c o, at-most-one (prefix (byte c o)), fields-small (byte c o) (kind (rowAt c o)))
 
   if-none : at16 c o ≡ 0 → d ≡ sizeAt c o + flagAt (bare l c) o * 64
   unfolding testedAt

@@ -22,10 +22,10 @@ fields-length x y BBB = refl
 fields-length x y S = refl
 fields-length x y W = refl
 
--- no byte or one before the opcode
-pub lead-small : (p : Bool) → cond p 1 0 ≤ 1
-lead-small true = omega arith
-lead-small false = omega arith
+-- 0 or 1 by a test
+pub at-most-one : (t : Bool) → cond t 1 0 ≤ 1
+at-most-one true = omega arith
+at-most-one false = omega arith
 
 -- one or two bytes in an operand that a prefix can widen
 one-or-two : (w : Bool) → (1 ≤ cond w 2 1) × (cond w 2 1 ≤ 2)
@@ -39,7 +39,7 @@ pub second-one-or-two : (b : ℕ) {y : ℕ} → y ≡ secondWidth b → (1 ≤ y
 second-one-or-two b e = let w = one-or-two (widensSecond b) in (omega (arith, w), omega (arith, w))
 
 -- at most six bytes of operands
-total-small : (x y : ℕ) (k : Kind) → x ≤ 2 → y ≤ 2 → total (fieldsBy x y k) ≤ 6
+pub total-small : (x y : ℕ) (k : Kind) → x ≤ 2 → y ≤ 2 → total (fieldsBy x y k) ≤ 6
 total-small x y Z p q = omega arith
 total-small x y BB p q = omega arith
 total-small x y B p q = omega arith

@@ -1,14 +1,13 @@
 -- A rule of every opcode byte is one test that is computed over the table of opcodes.
 -- Assumes nothing.
-use Prim.Native.Nat.{ℕ, zero, suc, _≤_}
-use native.Mathlib.Omega.{arith}
+use Prim.Native.Nat.{ℕ, zero, suc}
 use mathlib.Core.Path.{_≡_}
 use mathlib.Core.Bool.{Bool, true, _&&_}
 use mathlib.Core.List.{List, [], _∷_}
 use lib.Dec.{T, eqb, eqb→eq}
 use lib.Ieee.Fits.{and-l, and-r}
 use lib.ListN.{length, getD}
-use Rattle.format.specs.Insn.{NOP, Kind, Z, BB, B, BS, BSS, BBB, S, W, on, Row, op, fields, width, kind, roles, table, row}
+use Rattle.format.specs.Insn.{NOP, Z, on, Row, op, fields, kind, roles, table, row}
 
 -- `search both` takes a passed `&&` apart
 pub ruleset both = (and-l, and-r)
@@ -34,14 +33,3 @@ arities r = eqb (length (roles r)) (length (fields (kind r)))
 pub roles-length : (b : ℕ) → length (roles (row b)) ≡ length (fields (kind (row b)))
 unfolding arities table row
 roles-length b = eqb→eq _ _ (by-test arities tt b)
-
--- at most five bytes stand behind an opcode byte
-pub width-small : (k : Kind) → width k ≤ 5
-width-small Z = omega arith
-width-small BB = omega arith
-width-small B = omega arith
-width-small BS = omega arith
-width-small BSS = omega arith
-width-small BBB = omega arith
-width-small S = omega arith
-width-small W = omega arith

@@ -2,7 +2,7 @@
 -- Paper 01, 'Origin': "Figures are base ten, integers high byte first unless said."
 -- Assumes nothing.
 use Prim.Native.Nat.{ℕ, zero, suc, _+_, _-_, _*_, _^_}
-use mathlib.Core.Bool.{Bool, true, false, cond, _&&_}
+use mathlib.Core.Bool.{Bool, true, false, cond, _&&_, _||_}
 use mathlib.Core.List.{List, [], _∷_}
 use lib.Dec.{leb, ltb, eqb}
 use lib.Ieee.{Float, binary64, ofBits}
@@ -33,6 +33,11 @@ refuse n false = n
 abbrev pub first : ℕ → ℕ → ℕ
 first zero n = n
 first (suc m) n = suc m
+
+-- a number is one of a list
+abbrev pub oneOf : List ℕ → ℕ → Bool
+oneOf [] e = false
+oneOf (n ∷ ns) e = eqb e n || oneOf ns e
 
 -- one thing read, and the place after it
 pub record Step (A : Type 0) : Type 0 where

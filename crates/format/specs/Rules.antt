@@ -2,9 +2,10 @@
 -- table of opcodes.
 -- proofs/Table.antt has the computed test that the two agree.
 -- Assumes nothing.
-use mathlib.Core.Bool.{Bool, false, _||_, _&&_, cond}
-use mathlib.Core.List.{List, [], _∷_}
-use lib.Dec.{eqb, leb}
+use mathlib.Core.Bool.{Bool, _||_, _&&_, cond}
+use mathlib.Core.List.{List, [], _∷_, map}
+use lib.Dec.{leb}
+use Rattle.format.specs.Bytes.{oneOf}
 use Rattle.format.specs.Insn.{OpCode, MOVE, LOADL, LOADSYM, GETGV, SETMCNST, GETIDX0, JMP, JMPIF, JMPNOT, JMPNIL, JMPUW, RESCUE, SSEND, SSEND0}
 use Rattle.format.specs.Insn.{SSENDB, SEND, SEND0, SENDB, CALL, «KEY_P», KARG, RETURN, «RETURN_BLK», RETSELF, RETNIL, RETTRUE, RETFALSE, BREAK}
 use Rattle.format.specs.Insn.{ARRAY2, AREF, ASET, SYMBOL, STRING, LAMBDA, BLOCK, METHOD, CLASS, MODULE, EXEC, DEF, TDEF, SDEF, ALIAS, UNDEF}
@@ -12,8 +13,7 @@ use Rattle.format.specs.Insn.{DEBUG, ERR, STOP, number, Kind, Z}
 use Rattle.format.specs.Insn.{BB, B, BS, BSS, BBB, S, W, Role, reg, pool, sym, child, plain, Flow, on, ends, jumps, may, Row, op}
 
 abbrev pub among : List OpCode → OpCode → Bool
-among [] o = false
-among (x ∷ xs) o = eqb (number x) (number o) || among xs o
+among xs o = oneOf (map number xs) (number o)
 
 -- "GETGV to SETMCNST", in the order of opcode bytes
 abbrev pub between : OpCode → OpCode → OpCode → Bool

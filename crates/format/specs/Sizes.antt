@@ -3,9 +3,10 @@
 -- a prefix and each operand it widens." proofs/Sizes has the computed test that the two agree.
 -- Assumes nothing.
 use Prim.Native.Nat.{ℕ, _+_}
-use mathlib.Core.Bool.{Bool, false, _||_, _&&_, cond}
-use mathlib.Core.List.{List, [], _∷_}
+use mathlib.Core.Bool.{Bool, _&&_, cond}
+use mathlib.Core.List.{List, [], _∷_, map}
 use lib.Dec.{eqb}
+use Rattle.format.specs.Bytes.{oneOf}
 use Rattle.format.specs.Insn.{Kind, Z, BB, B, BS, BSS, BBB, S, W}
 
 -- the kinds by number, "in that file's order": by the first opcode that has them
@@ -31,8 +32,7 @@ sizeOf S = 3
 sizeOf W = 4
 
 abbrev pub among : List Kind → Kind → Bool
-among [] k = false
-among (x ∷ xs) k = eqb (kindNumber x) (kindNumber k) || among xs k
+among xs k = oneOf (map kindNumber xs) (kindNumber k)
 
 -- a prefix, and the kinds of which it widens an operand by one byte
 pub data Widening : Type 0 where

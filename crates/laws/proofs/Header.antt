@@ -13,7 +13,7 @@ use lib.Ieee.Fits.{and-i, and-l, and-r}
 use lib.ListN.{length, getD, take, drop, length-drop}
 use lib.Seq.{getD-drop, drop-drop}
 use borrow.Author.Tests.{ne-eqb}
-use Rattle.format.specs.Bytes.{Answer, ok, refused, onAnswer, has, fourAre}
+use Rattle.format.specs.Bytes.{Answer, ok, refused, oneOf, onAnswer, has, fourAre}
 use Rattle.format.specs.Headers.{riteIdent}
 use Rattle.format.specs.Reading.{Part, part}
 use Rattle.format.specs.File.{Content, nothing, sectionAt, sections, identIsRite, statedSize, majorIs04, fileRefusal, fileReading}
@@ -23,7 +23,7 @@ use Rattle.format.proofs.Answers.{refused-same, Refuses, answered, tested}
 use Rattle.format.proofs.File.{accepted}
 use Rattle.layout.proofs.Ends.{reading-accepted}
 use Rattle.layout.proofs.Inside.{loading-reading}
-use Rattle.laws.proofs.Numbers.{oneOf, Among, sectionNumbers, further}
+use Rattle.laws.proofs.Numbers.{Among, sectionNumbers, further}
 use Rattle.laws.proofs.Tests.{without, tests-are, number-iff}
 use Rattle.laws.proofs.Endings.{sections-end}
 use Rattle.laws.proofs.Refusals.{laid-refuses}

@@ -3,17 +3,14 @@
 use Prim.Native.Nat.{ℕ, zero, suc, _≤_}
 use native.Mathlib.Omega.{arith}
 use mathlib.Core.Path.{_≡_, refl, sym, subst}
-use mathlib.Core.Bool.{Bool, true, false, _&&_, _||_}
+use mathlib.Core.Bool.{Bool, true, false, _&&_}
 use mathlib.Core.List.{List, [], _∷_, _++_}
 use lib.Dec.{T, eqb}
 use lib.Ieee.Fits.{and-l, and-r}
 use borrow.Author.Tests.{eqb-true}
+use Rattle.format.specs.Bytes.{oneOf}
 
--- a number is one of a list, as a test that is computed
-abbrev pub oneOf : List ℕ → ℕ → Bool
-oneOf [] e = false
-oneOf (n ∷ ns) e = eqb e n || oneOf ns e
-
+-- a number is one of a list, by a test that is computed
 abbrev pub Among : List ℕ → ℕ → Type 0
 Among ns e = T (oneOf ns e)
 

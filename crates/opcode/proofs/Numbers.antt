@@ -9,8 +9,8 @@ use lib.ListN.{List·getD-eq-default}
 use borrow.Author.Tests.{le-ltb, ne-eqb}
 use Rattle.format.specs.Insn.{Kind, Z, BB, B, BS, BSS, BBB, S, W, Role, reg, pool, sym as symbol, child, plain, Flow, on, ends, jumps, may, NOP, Row, op}
 use Rattle.format.specs.Insn.{table, kind, flow, row, size}
-use Rattle.format.specs.Sizes.{kindNumber}
-use Rattle.format.proofs.Table.{width-small}
+use Rattle.format.specs.Sizes.{kindNumber, among, haveFirst, haveSecond}
+use Rattle.format.proofs.Prefix.{at-most-one, total-small}
 use Rattle.opcode.specs.Digits.{firstRole, secondRole, thirdRole, roleNumber, roleAt, flagInside, flagLast, flowAt, kindAt}
 use Rattle.opcode.specs.Digits.{firstByte, secondByte, rowDigits, instruction, digitsOf}
 
@@ -61,26 +61,6 @@ kind-small BBB = omega arith
 kind-small S = omega arith
 kind-small W = omega arith
 
-first-byte-small : (k : Kind) → firstByte k < 8
-first-byte-small Z = omega arith
-first-byte-small BB = omega arith
-first-byte-small B = omega arith
-first-byte-small BS = omega arith
-first-byte-small BSS = omega arith
-first-byte-small BBB = omega arith
-first-byte-small S = omega arith
-first-byte-small W = omega arith
-
-second-byte-small : (k : Kind) → secondByte k < 8
-second-byte-small Z = omega arith
-second-byte-small BB = omega arith
-second-byte-small B = omega arith
-second-byte-small BS = omega arith
-second-byte-small BSS = omega arith
-second-byte-small BBB = omega arith
-second-byte-small S = omega arith
-second-byte-small W = omega arith
-
 -- each digit: d are the digits of an instruction of n bytes whose opcode has the row r
 module _ {d n : ℕ} (r : Row) (e : d ≡ rowDigits n r) (s : n < 64) where
   pub size-digits : d % 64 ≡ n
@@ -116,7 +96,7 @@ module _ {d n : ℕ} (r : Row) (e : d ≡ rowDigits n r) (s : n < 64) where
         inside-small (flow r),
         last-small (flow r),
         kind-small (kind r),
-        first-byte-small (kind r),
+        at-most-one (among haveFirst (kind r)),
       )
 
   pub second-byte-digit : d / 134217728 % 8 ≡ secondByte (kind r)
@@ -129,8 +109,8 @@ module _ {d n : ℕ} (r : Row) (e : d ≡ rowDigits n r) (s : n < 64) where
         inside-small (flow r),
         last-small (flow r),
         kind-small (kind r),
-        first-byte-small (kind r),
-        second-byte-small (kind r),
+        at-most-one (among haveFirst (kind r)),
+        at-most-one (among haveSecond (kind r)),
       )
 
 -- and what it is the number of
@@ -201,7 +181,7 @@ pub few : (b : ℕ) → cond (instruction b) (size b) 0 < 64
 few b = go (instruction b)
   where
     go : (x : Bool) → cond x (size b) 0 < 64
-    go true = omega (arith, width-small (kind (row b)))
+    go true = omega (arith, total-small 1 1 (kind (row b)) (omega arith) (omega arith))
     go false = omega arith
 
 -- the row of an opcode byte, from its digits

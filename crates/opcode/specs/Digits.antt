@@ -6,7 +6,7 @@ use lib.Dec.{eqb}
 use lib.ListN.{getD}
 use Rattle.format.specs.Insn.{Kind, Z, BB, B, BS, BSS, BBB, S, W, Role, reg, pool, sym, child, plain, Flow, on, ends, jumps, may, Row, kind, roles, flow}
 use Rattle.format.specs.Insn.{row, size, known, prefix}
-use Rattle.format.specs.Sizes.{kindNumber}
+use Rattle.format.specs.Sizes.{kindNumber, among, haveFirst, haveSecond}
 
 -- the roles of three operands: one that an opcode lacks is plain
 abbrev pub firstRole : Row → Role
@@ -65,24 +65,10 @@ kindAt (suc (suc (suc (suc (suc (suc (suc x))))))) = W
 
 -- 1 where the first operand is a byte that a prefix can widen, and where the second is
 abbrev pub firstByte : Kind → ℕ
-firstByte Z = 0
-firstByte BB = 1
-firstByte B = 1
-firstByte BS = 1
-firstByte BSS = 1
-firstByte BBB = 1
-firstByte S = 0
-firstByte W = 0
+firstByte k = cond (among haveFirst k) 1 0
 
 abbrev pub secondByte : Kind → ℕ
-secondByte Z = 0
-secondByte BB = 1
-secondByte B = 0
-secondByte BS = 0
-secondByte BSS = 0
-secondByte BBB = 1
-secondByte S = 0
-secondByte W = 0
+secondByte k = cond (among haveSecond k) 1 0
 
 -- n in the two lowest digits, then these
 abbrev pub octal : ℕ → ℕ → ℕ → ℕ → ℕ → ℕ → ℕ → ℕ → ℕ → ℕ

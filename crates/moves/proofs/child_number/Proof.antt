@@ -7,7 +7,7 @@ use lib.ListN.{length}
 use borrow.Author.Tests.{ne-eqb}
 use Rattle.format.specs.Bytes.{byte}
 use Rattle.format.specs.Insn.{prefix}
-use Rattle.format.proofs.Prefix.{lead-small, first-one-or-two, second-one-or-two}
+use Rattle.format.proofs.Prefix.{at-most-one, first-one-or-two, second-one-or-two}
 use borrow.Author.Needs.{needs}
 use Rattle.moves.proofs.child_number.Statement.{statement}
 use Rattle.moves.proofs.child_number.Tie as tie
@@ -16,7 +16,7 @@ use Rattle.moves.proofs.child_number.Tie as tie
 lead-few : (c : tie.After-lead) → c .lead .result ≤ 1
 lead-few c =
     let a = c .before .before .before .args in
-    omega (arith, c .lead .ensures, lead-small (prefix (byte (a .code .now) (a .o))))
+    omega (arith, c .lead .ensures, at-most-one (prefix (byte (a .code .now) (a .o))))
 
 -- where the second operand stands
 second : (c : tie.After-first-width)
