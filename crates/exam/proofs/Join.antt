@@ -10,11 +10,12 @@ use lib.ListN.{take, drop}
 use borrow.Author.Tests.{ne-eqb}
 use Rattle.format.specs.Bytes.{refuse, first}
 use Rattle.format.specs.Insn.{Role, reg, pool, sym as symbol, child, plain, roles, rest, rowAt, operandsAt}
+use Rattle.format.specs.Registers.{Range, registersAt}
 use Rattle.format.specs.Line.{rowsFrom}
 use Rattle.format.specs.Lookup.{word}
 use Rattle.format.specs.Tree.{layout, whole}
 use Rattle.format.specs.Pattern.{Record, rlens}
-use Rattle.format.specs.Exam.{below, allBelow, operandsBelow, follows, firstAt, at1718, exam1718, exam19, exam20, examineRecord, examineAll, examinePattern}
+use Rattle.format.specs.Exam.{below, allBelow, operandsBelow, rangeBelow, fits, follows, firstAt, at1718, exam1718, exam19, exam20, examineRecord, examineAll, examinePattern}
 use Rattle.format.proofs.RowsFrom.{rowsFrom-map}
 use Rattle.flags.specs.Flags.{bare}
 use Rattle.exam.specs.View.{recordAt, patternAt, rlensAt}
@@ -50,28 +51,32 @@ module _ (l : List ℕ) (R : Record) (s : Same l R) where
   all-same (x ∷ xs) [] = refl
   all-same (x ∷ xs) (v ∷ vs) = rw (below-same x v, all-same xs vs)
 
-  operands-same : (o : ℕ) → operandsBelow (bare l (R .code)) o ≡ operandsBelow R o
-  unfolding operandsBelow
-  operands-same o = all-same (roles (rowAt (R .code) o)) (operandsAt (R .code) o)
+  range-same : (x : Range) → rangeBelow (bare l (R .code)) x ≡ rangeBelow R x
+  unfolding rangeBelow
+  range-same x = rw (s .regs)
+
+  fits-same : (o : ℕ) → fits (bare l (R .code)) o ≡ fits R o
+  unfolding fits operandsBelow
+  fits-same o = rw (all-same (roles (rowAt (R .code) o)) (operandsAt (R .code) o), range-same (registersAt (R .code) o))
 
   bare-same : exam1718 (bare l (R .code)) ≡ exam1718 R
   unfolding exam1718
   bare-same =
-      firstAt-same (at1718 (bare l (R .code))) (at1718 R) (λ o. ap (λ (b : Bool). first (refuse 17 b) (refuse 18 (follows (R .code) o))) (operands-same o)) (R .code) 0 0
+      firstAt-same (at1718 (bare l (R .code))) (at1718 R) (λ o. ap (λ (b : Bool). first (refuse 17 b) (refuse 18 (follows (R .code) o))) (fits-same o)) (R .code) 0 0
 
--- the words that the code reads
-abbrev pub limitsAt : List ℕ → ℕ → List ℕ
-limitsAt recs r = 65536 ∷ word 19 recs r 2 ∷ word 19 recs r 10 ∷ word 19 recs r 12 ∷ word 19 recs r 3 ∷ []
+-- the words that the code reads, and two that it counts
+abbrev pub limitsAt : List ℕ → ℕ → ℕ → ℕ → List ℕ
+limitsAt recs r p t = 65536 ∷ word 19 recs r 2 ∷ word 19 recs r 10 ∷ word 19 recs r 12 ∷ word 19 recs r 3 ∷ p ∷ t ∷ []
 
 module _ (f recs hs ls : List ℕ) (r : ℕ) where
-  pub record-is : (a e h hn l ln n : ℕ) → a ≡ word 19 recs r 6 → n ≡ word 19 recs r 5 → e ≡ a + n
+  pub record-is : (a e h hn l ln n p t : ℕ) → a ≡ word 19 recs r 6 → n ≡ word 19 recs r 5 → e ≡ a + n
       → h ≡ word 19 recs r 7 → hn ≡ word 19 recs r 8 → l ≡ word 19 recs r 17 → ln ≡ word 19 recs r 18
-      → examinePart (limitsAt recs r) (take (e - a) (drop a f)) hs h hn ls l ln ≡ examineRecord (recordAt f recs hs ls r)
+      → examinePart (limitsAt recs r p t) (take (e - a) (drop a f)) hs h hn ls l ln ≡ examineRecord (recordAt f recs hs ls r)
   unfolding examineRecord exam19 exam20
-  record-is a e h hn l ln n ea en ee eh ehn el eln =
+  record-is a e h hn l ln n p t ea en ee eh ehn el eln =
       let d : e - a ≡ word 19 recs r 5 = omega arith in
-      let s : Same (limitsAt recs r) (recordAt f recs hs ls r) = record { regs = refl; constants = refl; symbols = refl; children = refl } in
-      rw (first-assoc, d, ea, eh, ehn, el, eln, bare-same (limitsAt recs r) (recordAt f recs hs ls r) s)
+      let s : Same (limitsAt recs r p t) (recordAt f recs hs ls r) = record { regs = refl; constants = refl; symbols = refl; children = refl } in
+      rw (first-assoc, d, ea, eh, ehn, el, eln, bare-same (limitsAt recs r p t) (recordAt f recs hs ls r) s)
 
 -- 15, at the record i with p trees to go
 abbrev rlenAt : List ℕ → ℕ → ℕ

@@ -2,7 +2,7 @@
 use flags::begins_at;
 use scan::exam_code;
 ghost use mathlib.Core.Path.{_≡_};
-ghost use Prim.Native.Nat.{_+_, _*_, _<_, _≤_};
+ghost use Prim.Native.Nat.{_+_, _-_, _*_, _<_, _≤_};
 ghost use lib.ListN.{length, getD};
 ghost use Rattle.format.specs.Line.{rising};
 ghost use Rattle.format.specs.Tree.{whole};
@@ -24,6 +24,16 @@ pub fn word(t: &[u32], i: usize) -> usize
     ensures { λ r. ⌜ (r ≡ getD (now (t .entry)) i 0) × (r < 4294967296) ⌝ }
 {
     long(t[i])
+}
+
+// So many less, 0 where there are fewer.
+fn less(x: u32, n: u32) -> u32
+    ensures { λ r. ⌜ r ≡ x - n ⌝ }
+{
+    if x < n {
+        return 0;
+    }
+    x - n
 }
 
 // 19 over the `n` handlers from row `first` on.
@@ -104,13 +114,18 @@ pub fn examine_record(
     let row = r * 19;
     let place = word(records, row + 6);
     let end = place + word(records, row + 5);
-    // By the number of an operand's role: none, registers, constants, symbols, children.
-    let limits: [u32; 5] = [
+    let nregs = records[row + 2];
+    let pair = less(nregs, 1);
+    let triple = less(nregs, 2);
+    // By the number of an operand's role: none, registers, constants, symbols, children, registers with one behind them and with two.
+    let limits: [u32; 7] = [
         65536,
-        records[row + 2],
+        nregs,
         records[row + 10],
         records[row + 12],
         records[row + 3],
+        pair,
+        triple,
     ];
     examine_part(
         &file[place..end],

@@ -1,6 +1,6 @@
 -- The tests of an instruction: by its first byte and by the one behind a prefix; and what they say of 16, 25, its size and its flag.
 -- Assumes nothing.
-use Prim.Native.Nat.{ℕ, zero, suc, _+_, _-_, _*_, _/_, _%_, _≤_, _<_}
+use Prim.Native.Nat.{ℕ, zero, suc, _+_, _-_, _*_, _/_, _≤_, _<_}
 use native.Mathlib.Numerals.{add-one}
 use native.Mathlib.Omega.{arith}
 use mathlib.Core.Path.{_≡_, refl, sym, ap, subst, _∙_}
@@ -12,13 +12,13 @@ use borrow.Author.Tests.{le-leb, lt-leb, leb-true, leb-false, ne-eqb}
 use Rattle.format.specs.Bytes.{byte, refuse}
 use Rattle.format.specs.Insn.{Kind, Z, BB, B, BS, BSS, BBB, S, W, Flow, total, fieldsBy, width, kind, flow, size, known, prefix, lead}
 use Rattle.format.specs.Insn.{firstWidth, secondWidth, opcode, rowAt, next}
-use Rattle.format.specs.Exam.{stray, readable, operandsBelow, at16}
+use Rattle.format.specs.Exam.{stray, readable, fits, at16}
 use Rattle.format.proofs.Answers.{false-true}
 use Rattle.format.proofs.Prefix.{at-most-one, first-one-or-two, second-one-or-two, fields-small}
 use Rattle.runs.proofs.Next.{rest-at, next-at, next-alone, opcode-alone, opcode-behind}
 use Rattle.runs.proofs.Jumps.{readable-whole}
 use Rattle.runs.proofs.Exact.{none-met}
-use Rattle.opcode.specs.Digits.{flagInside, flagLast, firstByte, secondByte, instruction, digitsOf}
+use Rattle.opcode.specs.Digits.{flagInside, flagLast, firstByte, secondByte, sizeIn, instruction, digitsOf}
 use Rattle.opcode.proofs.Numbers.{inside-small, last-small, few, first-byte-digit, second-byte-digit, no-size, some-size, size-is}
 use Rattle.flags.specs.Flags.{bare, Looked, Alone, Entire, sizeAt, sizeBehind, flagAt, testedAt}
 
@@ -100,7 +100,7 @@ module _ (c : List ℕ) (o : ℕ) (p : prefix (byte c o) ≡ false) where
   unknown-alone e = unknown c o (ap known (opcode-alone c o p) ∙ not-known (byte c o) e p)
 
 -- d: the digits of the first byte, which have a size
-module _ (c : List ℕ) (o : ℕ) {d : ℕ} (h : o < length c) (e : d ≡ digitsOf (byte c o)) (s : d % 64 ≡ 0 → ⊥) where
+module _ (c : List ℕ) (o : ℕ) {d : ℕ} (h : o < length c) (e : d ≡ digitsOf (byte c o)) (s : sizeIn d ≡ 0 → ⊥) where
   alone : instruction (byte c o) ≡ true
   alone = some-size (byte c o) e s
 
@@ -110,20 +110,20 @@ module _ (c : List ℕ) (o : ℕ) {d : ℕ} (h : o < length c) (e : d ≡ digits
   looked-here : Looked c o d
   looked-here = record { inside = h; digits = e ∙ ap digitsOf (sym (opcode-alone c o plain-here)) }
 
-  pub next-here : o + d % 64 ≡ next c o
+  pub next-here : o + sizeIn d ≡ next c o
   next-here = ap (λ (n : ℕ). o + n) (size-is (byte c o) e alone) ∙ sym (next-alone c o plain-here)
 
   known-here : known (opcode c o) ≡ true
   known-here = ap known (opcode-alone c o plain-here) ∙ alone-known (byte c o) alone
 
-  pub alone-here : d % 64 ≤ length c - o → Alone c o d
+  pub alone-here : sizeIn d ≤ length c - o → Alone c o d
   alone-here k = record { looked = looked-here; no-prefix = plain-here; next-is = next-here; whole = omega (arith, next-here) }
 
   -- cut, or whole
-  pub cut-here : length c - o < d % 64 → at16 c o ≡ 16
+  pub cut-here : length c - o < sizeIn d → at16 c o ≡ 16
   cut-here k = let s = not-stray c o plain-here in rw (s, cut c o known-here (omega (arith, next-here)))
 
-  none-here : d % 64 ≤ length c - o → at16 c o ≡ 0
+  none-here : sizeIn d ≤ length c - o → at16 c o ≡ 0
   none-here k = let s = not-stray c o plain-here in rw (s, whole c o known-here (omega (arith, next-here)))
 
 -- behind a prefix
@@ -156,7 +156,7 @@ total-wide x y S = omega arith
 total-wide x y W = omega arith
 
 -- d: the digits of the byte behind the prefix, which have a size
-module _ (c : List ℕ) (o : ℕ) {d : ℕ} (h : o + 1 < length c) (p : prefix (byte c o) ≡ true) (e : d ≡ digitsOf (byte c (o + 1))) (s : d % 64 ≡ 0 → ⊥) where
+module _ (c : List ℕ) (o : ℕ) {d : ℕ} (h : o + 1 < length c) (p : prefix (byte c o) ≡ true) (e : d ≡ digitsOf (byte c (o + 1))) (s : sizeIn d ≡ 0 → ⊥) where
   behind : instruction (byte c (o + 1)) ≡ true
   behind = some-size (byte c (o + 1)) e s
 
@@ -180,7 +180,7 @@ module _ (c : List ℕ) (o : ℕ) {d : ℕ} (h : o + 1 < length c) (p : prefix (
       let y : 1 + (secondWidth q - 1) ≡ secondWidth q = omega (arith, second-one-or-two q refl) in
       let t : total (fieldsBy (firstWidth q) (secondWidth q) k) ≡ width k + (firstWidth q - 1) * firstByte k + (secondWidth q - 1) * secondByte k
       = rw (x, y) at (total-wide (firstWidth q - 1) (secondWidth q - 1) k) in
-      let z : d % 64 ≡ suc (width k) = size-is (byte c (o + 1)) e behind ∙ ap size (sym (opcode-behind c o p)) in
+      let z : sizeIn d ≡ suc (width k) = size-is (byte c (o + 1)) e behind ∙ ap size (sym (opcode-behind c o p)) in
       let w : sizeAt c o ≡ suc (1 + total (fieldsBy (firstWidth q) (secondWidth q) k)) = ap suc (rest-at c o ∙ rw p) in
       rw (first-byte-digit r g n, second-byte-digit r g n) (omega (arith, t, z, w))
 
@@ -196,7 +196,7 @@ number-small false false = omega arith
 
 flag-small : (l c : List ℕ) (o : ℕ) → flagAt (bare l c) o < 8
 unfolding flagAt
-flag-small l c o = go (operandsBelow (bare l c) o) (ltb (next c o) (length c))
+flag-small l c o = go (fits (bare l c) o) (ltb (next c o) (length c))
   where
     w : Flow
     w = flow (rowAt c o)
@@ -212,8 +212,8 @@ pub record Passed (l c : List ℕ) (o n f : ℕ) : Type 0 where
   pub next-is : o + n ≡ next c o
   pub flag-is : f ≡ flagAt (bare l c) o
 
-pub passed-here : (l c : List ℕ) (o : ℕ) {d f : ℕ} → o < length c → d ≡ digitsOf (byte c o) → (d % 64 ≡ 0 → ⊥) → d % 64 ≤ length c - o
-    → f ≡ flagAt (bare l c) o → Passed l c o (d % 64) f
+pub passed-here : (l c : List ℕ) (o : ℕ) {d f : ℕ} → o < length c → d ≡ digitsOf (byte c o) → (sizeIn d ≡ 0 → ⊥) → sizeIn d ≤ length c - o
+    → f ≡ flagAt (bare l c) o → Passed l c o (sizeIn d) f
 passed-here l c o h e s k q = record { none = none-here c o h e s k; next-is = next-here c o h e s; flag-is = q }
 
 module _ (l c : List ℕ) (o : ℕ) {d : ℕ} (e : d ≡ testedAt l c o) where
@@ -235,21 +235,21 @@ module _ (l c : List ℕ) (o : ℕ) {d : ℕ} (e : d ≡ testedAt l c o) where
       go zero q = omega (arith, if-none q, size-small, flag-small l c o)
       go (suc n) q = omega (arith, if-met q, q, number-small (stray c o) (readable c o))
 
-  pub tested-met : d % 64 ≡ 0 → (at16 c o ≡ d / 64) × (d / 64 ≡ 0 → ⊥)
+  pub tested-met : sizeIn d ≡ 0 → (at16 c o ≡ d / 64) × (d / 64 ≡ 0 → ⊥)
   tested-met z = go (at16 c o) refl
     where
       go : (n : ℕ) → at16 c o ≡ n → (at16 c o ≡ d / 64) × (d / 64 ≡ 0 → ⊥)
       go zero q = absurd (omega (arith, if-none q, size-small))
       go (suc n) q = (q ∙ omega (arith, if-met q), λ y. omega (arith, if-met q))
 
-  pub tested-passed : (d % 64 ≡ 0 → ⊥) → Passed l c o (d % 64) (d / 64)
+  pub tested-passed : (sizeIn d ≡ 0 → ⊥) → Passed l c o (sizeIn d) (d / 64)
   tested-passed z = go (at16 c o) refl
     where
-      go : (n : ℕ) → at16 c o ≡ n → Passed l c o (d % 64) (d / 64)
+      go : (n : ℕ) → at16 c o ≡ n → Passed l c o (sizeIn d) (d / 64)
       go zero q =
           record {
             none = q;
-            next-is = let s : d % 64 ≡ sizeAt c o = omega (arith, if-none q, size-small) in ap (λ (n : ℕ). o + n) s;
+            next-is = let s : sizeIn d ≡ sizeAt c o = omega (arith, if-none q, size-small) in ap (λ (n : ℕ). o + n) s;
             flag-is = omega (arith, if-none q, size-small);
           }
       go (suc n) q = absurd (z (omega (arith, if-met q)))
@@ -266,7 +266,7 @@ module _ {c : List ℕ} {o : ℕ} (t : Entire c o) where
   opcode-inside = omega (arith, next-at c o, entire-whole)
 
   -- d: the digits of its first byte, which have no size
-  module _ {d : ℕ} (e : d ≡ digitsOf (byte c o)) (z : d % 64 ≡ 0) where
+  module _ {d : ℕ} (e : d ≡ digitsOf (byte c o)) (z : sizeIn d ≡ 0) where
     pub prefix-here : prefix (byte c o) ≡ true
     prefix-here = go (prefix (byte c o)) refl
       where
@@ -284,7 +284,7 @@ module _ {c : List ℕ} {o : ℕ} (t : Entire c o) where
         go true q = absurd (stray-none (stray-last c o prefix-here (leb-true (length c) (o + 1) q)))
         go false q = leb-false (length c) (o + 1) q
 
-    pub behind-size : {n : ℕ} → n ≡ digitsOf (byte c (o + 1)) → n % 64 ≡ 0 → ⊥
+    pub behind-size : {n : ℕ} → n ≡ digitsOf (byte c (o + 1)) → sizeIn n ≡ 0 → ⊥
     behind-size en y = go (prefix (byte c (o + 1))) refl
       where
         go : (p : Bool) → prefix (byte c (o + 1)) ≡ p → ⊥

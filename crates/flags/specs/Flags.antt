@@ -1,30 +1,27 @@
 -- The tests of an instruction, its flag, and what flags say of a record: a record of which only the bytes and the counts matter.
 -- Assumes nothing.
-use Prim.Native.Nat.{ℕ, zero, suc, _+_, _-_, _*_, _/_, _%_, _≤_, _<_}
+use Prim.Native.Nat.{ℕ, zero, suc, _+_, _-_, _*_, _≤_, _<_}
 use mathlib.Core.Path.{_≡_}
-use mathlib.Core.Bool.{Bool, false, cond, _&&_}
+use mathlib.Core.Bool.{Bool, false, cond, _&&_, _||_}
 use mathlib.Core.List.{List, []}
 use lib.Dec.{leb, ltb, eqb}
 use lib.ListN.{length, getD, drop}
 use Rattle.format.specs.Bytes.{byte, u16At, refuse}
 use Rattle.format.specs.Insn.{flow, prefix, firstWidth, secondWidth, opcode, rowAt, rest, next, signed16}
 use Rattle.format.specs.Pattern.{Record, begins}
-use Rattle.format.specs.Exam.{operandsBelow, at16}
-use Rattle.opcode.specs.Digits.{flagInside, flagLast, digitsOf}
+use Rattle.format.specs.Exam.{fits, at16}
+use Rattle.opcode.specs.Digits.{flagInside, flagLast, endBy, sizeIn, firstIn, secondIn, insideIn, lastIn, firstByteIn, secondByteIn, thirdIn, formIn, digitsOf}
 
--- what operands have to stay below, by the number of their role: 65536 where it is plain
+-- what operands have to stay below, by the number of their role: 65536 where it is plain, less by one and by two where registers behind it count
 pub record Limits (l : List ℕ) : Type 0 where
-  pub five : length l ≡ 5
+  pub seven : length l ≡ 7
   pub plain-limit : getD l 0 0 ≡ 65536
+  pub pair-limit : getD l 5 0 ≡ getD l 1 0 - 1
+  pub triple-limit : getD l 6 0 ≡ getD l 1 0 - 2
 
 abbrev pub bare : List ℕ → List ℕ → Record
 bare l c =
     record { nregs = getD l 1 0; rlen = getD l 4 0; npool = getD l 2 0; nsyms = getD l 3 0; code = c; handlers = []; lines = [] }
-
--- an operand at i whose role has the number x: it is there unless it is plain
-pub record Operand (c : List ℕ) (i x : ℕ) : Type 0 where
-  pub role : x < 5
-  pub there : 0 < x → i < length c
 
 -- d: the digits of the opcode of the instruction at o
 pub record Looked (c : List ℕ) (o d : ℕ) : Type 0 where
@@ -35,7 +32,7 @@ pub record Looked (c : List ℕ) (o d : ℕ) : Type 0 where
 pub record Alone (c : List ℕ) (o d : ℕ) : Type 0 where
   pub looked : Looked c o d
   pub no-prefix : prefix (byte c o) ≡ false
-  pub next-is : o + d % 64 ≡ next c o
+  pub next-is : o + sizeIn d ≡ next c o
   pub whole : next c o ≤ length c
 
 -- the instruction at o meets neither 16 nor 25
@@ -49,19 +46,34 @@ sizeAt c o = suc (rest (byte c o) (drop (suc o) c))
 
 -- how many an opcode of the digits d has behind the prefix p, the prefix with them
 abbrev pub sizeBehind : ℕ → ℕ → ℕ
-sizeBehind p d = 1 + d % 64 + (firstWidth p - 1) * (d / 16777216 % 8) + (secondWidth p - 1) * (d / 134217728 % 8)
+sizeBehind p d = 1 + sizeIn d + (firstWidth p - 1) * firstByteIn d + (secondWidth p - 1) * secondByteIn d
+
+-- d has numbers of limits where operands are tested
+pub record Numbered (d : ℕ) : Type 0 where
+  pub first : firstIn d < 7
+  pub second : secondIn d < 7
+  pub third : thirdIn d < 7
+
+-- v is below the limit of number x, if that is not a plain operand's
+abbrev pub within : List ℕ → ℕ → ℕ → Bool
+within l x v = eqb x 0 || ltb v (getD l x 0)
+
+-- 17 by the digits d of an opcode and the operands a, b and e: each below its limit, and the last register that is named below nregs
+abbrev pub belowBy : List ℕ → ℕ → ℕ → ℕ → ℕ → Bool
+belowBy l d a b e =
+    within l (firstIn d) a && (within l (secondIn d) b && (within l (thirdIn d) e && leb (endBy (formIn d) a b e) (getD l 1 0)))
 
 -- the flag of the instruction at o: 2 where it meets 17
 unfoldable pub flagAt : Record → ℕ → ℕ
 flagAt r o =
     cond
-    (operandsBelow r o)
+    (fits r o)
     (cond (ltb (next (r .code) o) (length (r .code))) (flagInside (flow (rowAt (r .code) o))) (flagLast (flow (rowAt (r .code) o))))
     2
 
 -- and by what 17 answers, by whether the next offset is inside the record, and by the digits of the opcode
 abbrev pub flagBy : Bool → Bool → ℕ → ℕ
-flagBy below inside d = cond below (cond inside (d / 32768 % 8) (d / 262144 % 8)) 2
+flagBy below inside d = cond below (cond inside (insideIn d) (lastIn d)) 2
 
 -- what the tests of the instruction at o answer: its size and, behind that, its flag; or no size, and the number that it meets of 16 and 25
 unfoldable pub testedAt : List ℕ → List ℕ → ℕ → ℕ

@@ -4,17 +4,16 @@ use opcode::first_width;
 use opcode::lead;
 use opcode::parts::*;
 use opcode::second_width;
-ghost use mathlib.Core.Bool.{false, true};
-ghost use mathlib.Core.List.{[]};
+ghost use mathlib.Core.Bool.{false};
 ghost use mathlib.Core.Path.{_≡_};
-ghost use Prim.Native.Nat.{_+_, _<_, _≤_};
+ghost use Prim.Native.Nat.{_+_, _*_, _<_, _≤_};
 ghost use lib.ListN.{length};
 ghost use Rattle.format.specs.Bytes.{byte};
-ghost use Rattle.format.specs.Insn.{prefix, operand, opcode as opcodeOf, signed16, next};
+ghost use Rattle.format.specs.Insn.{operand, opcode as opcodeOf, signed16, next};
+ghost use Rattle.format.specs.Registers as registers;
 ghost use Rattle.format.specs.Pattern.{begins};
-ghost use Rattle.format.specs.Exam.{below, operandsBelow};
-ghost use Rattle.opcode.specs.Digits.{roleAt, instruction};
-ghost use Rattle.flags.specs.Flags.{Limits, Operand, Looked, Alone, Entire, bare, sizeBehind, flagAt, flagBy, testedAt, Marked, landsFrom};
+ghost use Rattle.opcode.specs.Digits.{endBy, instruction};
+ghost use Rattle.flags.specs.Flags.{Limits, Numbered, Alone, Entire, bare, sizeBehind, within, belowBy, flagAt, flagBy, testedAt, Marked, landsFrom};
 
 // The flag of an instruction with an operand that meets 17, and of one whose target has to be tested.
 pub const HIGH: u8 = 2;
@@ -25,6 +24,9 @@ pub const TARGETED: u8 = 3;
 const UNREADABLE: usize = 16 * SIZE;
 
 const STRAY: usize = 25 * SIZE;
+
+// The number of arguments, or of pairs of a key and a value, that says that one register holds them all.
+const ALL_IN_ONE: usize = 15;
 
 // A byte as a number.
 fn wide(x: u8) -> usize
@@ -57,72 +59,81 @@ pub fn operand_at(code: &[u8], at: usize, w: usize) -> usize
     (w - 1) * byte_at(code, at) * 256 + byte_at(code, at + w - 1)
 }
 
-// 17 at an operand of one byte, by the number of its role. One that is plain need not be there.
-fn byte_below(code: &[u8], at: usize, role: usize, limits: &[u32]) -> bool
-    requires { ⌜ Limits (now limits) ⌝ }
-    requires { ⌜ Operand (now code) at role ⌝ }
-    ensures { λ r. ⌜ r ≡ below (bare (now (limits .entry)) []) (roleAt role) (byte (now (code .entry)) at) ⌝ }
-{
-    if at < code.len() {
-        return wide(code[at]) < long(limits[role]);
-    }
-    true
-}
-
-// 17 at the operand `v`, by the number of its role.
+// Is the operand `v` below the limit of this number? One that is plain is below any.
 fn is_below(v: usize, role: usize, limits: &[u32]) -> bool
     requires { ⌜ Limits (now limits) ⌝ }
-    requires { ⌜ (role < 5) × (v < 65536) ⌝ }
-    ensures { λ r. ⌜ r ≡ below (bare (now (limits .entry)) []) (roleAt role) v ⌝ }
+    requires { ⌜ (role < 7) × (v < 65536) ⌝ }
+    ensures { λ r. ⌜ r ≡ within (now (limits .entry)) role v ⌝ }
 {
     v < long(limits[role])
 }
 
-// 17 at a third operand: few opcodes have one that is not plain.
-fn third_below(code: &[u8], at: usize, role: usize, limits: &[u32]) -> bool
-    requires { ⌜ Limits (now limits) ⌝ }
-    requires { ⌜ role < 5 ⌝ }
-    ensures { λ r. ⌜ r ≡ below (bare (now (limits .entry)) []) (roleAt role) (byte (now (code .entry)) at) ⌝ }
+// How many registers `n` arguments take, so many each.
+fn counted(each: usize, n: usize) -> usize
+    requires { ⌜ (each ≤ 2) × (n < 16) ⌝ }
+    ensures { λ r. ⌜ (r ≡ registers.counted each n) × (r < 32) ⌝ }
 {
-    if role == PLAIN {
+    if n == ALL_IN_ONE {
+        return 1;
+    }
+    each * n
+}
+
+// How many registers the arguments of a call take: `n` in the low four bits, twice `k` in the next four.
+fn arguments(v: usize) -> usize
+    ensures { λ r. ⌜ (r ≡ registers.arguments v) × (r < 64) ⌝ }
+{
+    counted(1, v % 16) + counted(2, v / 16 % 16)
+}
+
+// An operand so often.
+fn times(n: usize, v: usize) -> usize
+    requires { ⌜ (n < 8) × (v < 65536) ⌝ }
+    ensures { λ r. ⌜ (r ≡ n * v) × (r < 524288) ⌝ }
+{
+    n * v
+}
+
+// The register behind the last that an instruction of the operands `a`, `b` and `c` names, by the sum in the digits of its opcode.
+fn end_of(sum: usize, a: usize, b: usize, c: usize) -> usize
+    requires { ⌜ (a < 65536) × (b < 65536) × (c < 65536) ⌝ }
+    ensures { λ r. ⌜ r ≡ endBy sum a b c ⌝ }
+{
+    let operands = times(sum / OF_FIRST % BASE, a) + times(sum / OF_SECOND % BASE, b) + times(sum / OF_THIRD % BASE, c);
+    let call = times(sum / ARGUMENTS_OF_SECOND % BASE, b) + times(sum / ARGUMENTS_OF_THIRD % BASE, c);
+    sum % BASE + operands + arguments(call)
+}
+
+// 17 at an instruction whose operands begin at `at`, by the digits of its opcode. The first has `x` bytes and the second `y`, where a prefix can
+// widen them; a third that has a role is one byte.
+fn operands_below(code: &[u8], at: usize, x: usize, y: usize, d: usize, limits: &[u32]) -> bool
+    requires { ⌜ Limits (now limits) ⌝ }
+    requires { ⌜ Numbered d ⌝ }
+    requires { ⌜ (1 ≤ x) × (x ≤ 2) × (1 ≤ y) × (y ≤ 2) × (at ≤ length (now code) + 2) ⌝ }
+    ensures
+    {
+        λ r. ⌜
+            r ≡ belowBy (now (limits .entry)) d (operand x (now (code .entry)) at) (operand y (now (code .entry)) (at + x))
+            (byte (now (code .entry)) (at + x + y)) ⌝
+    }
+{
+    let a = operand_at(code, at, x);
+    if !is_below(a, d / FIRST % BASE, limits) {
+        return false;
+    }
+    let b = operand_at(code, at + x, y);
+    if !is_below(b, d / SECOND % BASE, limits) {
+        return false;
+    }
+    let more = d / THIRD;
+    if more == 0 {
         return true;
     }
-    is_below(byte_at(code, at), role, limits)
-}
-
-// 17 at the instruction at `i`, which has no prefix, by the digits of its opcode: an operand that has a role is one byte.
-fn bytes_below(code: &[u8], i: usize, d: usize, limits: &[u32]) -> bool
-    requires { ⌜ Limits (now limits) ⌝ }
-    requires { ⌜ Alone (now code) i d ⌝ }
-    ensures { λ r. ⌜ r ≡ operandsBelow (bare (now (limits .entry)) (now (code .entry))) i ⌝ }
-{
-    if !byte_below(code, i + 1, d / FIRST % BASE, limits) {
+    let c = byte_at(code, at + x + y);
+    if !is_below(c, more % BASE, limits) {
         return false;
     }
-    if !byte_below(code, i + 2, d / SECOND % BASE, limits) {
-        return false;
-    }
-    third_below(code, i + 3, d / THIRD % BASE, limits)
-}
-
-// 17 at the instruction at `i`, which has a prefix.
-fn operands_below(code: &[u8], i: usize, d: usize, limits: &[u32]) -> bool
-    requires { ⌜ Limits (now limits) ⌝ }
-    requires { ⌜ Looked (now code) i d ⌝ }
-    requires { ⌜ prefix (byte (now code) i) ≡ true ⌝ }
-    ensures { λ r. ⌜ r ≡ operandsBelow (bare (now (limits .entry)) (now (code .entry))) i ⌝ }
-{
-    let p = code[i];
-    let x = first_width(p);
-    let y = second_width(p);
-    let at = i + 2;
-    if !is_below(operand_at(code, at, x), d / FIRST % BASE, limits) {
-        return false;
-    }
-    if !is_below(operand_at(code, at + x, y), d / SECOND % BASE, limits) {
-        return false;
-    }
-    third_below(code, at + x + y, d / THIRD % BASE, limits)
+    end_of(more / BASE, a, b, c) <= long(limits[REG])
 }
 
 // The flag of an instruction by 17, by whether its next offset is inside the record, and by the digits of its opcode.
@@ -144,7 +155,7 @@ pub fn flag_at(code: &[u8], i: usize, d: usize, limits: &[u32]) -> u8
     requires { ⌜ Alone (now code) i d ⌝ }
     ensures { λ r. ⌜ r ≡ flagAt (bare (now (limits .entry)) (now (code .entry))) i ⌝ }
 {
-    let below = bytes_below(code, i, d, limits);
+    let below = operands_below(code, i + 1, 1, 1, d, limits);
     flag_of(below, i + d % SIZE < code.len(), d)
 }
 
@@ -184,7 +195,7 @@ pub fn test_behind(code: &[u8], i: usize, limits: &[u32]) -> usize
     if code.len() - i < n {
         return UNREADABLE;
     }
-    let below = operands_below(code, i, d, limits);
+    let below = operands_below(code, i + 2, first_width(p), second_width(p), d, limits);
     n + wide(flag_of(below, i + n < code.len(), d)) * SIZE
 }
 

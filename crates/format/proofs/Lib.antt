@@ -5,6 +5,7 @@ pub mod Pool
 pub mod File
 pub mod Table
 pub mod Sizes
+pub mod Registers
 pub mod Prefix
 pub mod RowsFrom
 pub mod Places

@@ -14,6 +14,7 @@ use Rattle.format.specs.Lvar.{Lvar}
 use Rattle.format.specs.File.{Content}
 use Rattle.format.specs.Load.{Nine, loading, recordsOf}
 use Rattle.format.specs.Insn.{plain, roles, rowAt, operandsAt}
+use Rattle.format.specs.Registers.{Names}
 use Rattle.format.specs.Line.{lineAt, lastAtOrBelow}
 use Rattle.format.specs.Pattern.{Pattern, patternOf, recAt, Begins}
 use Rattle.format.specs.Exam.{stray, readable, Below}
@@ -29,6 +30,8 @@ pub record FrameHolds (p : Pattern) (f : Frame) : Type 0 where
   pub whole : T (readable (codeOf p f) (f .at))
   pub operands : (i : ℕ) → i < length (roles (rowAt (codeOf p f) (f .at)))
       → Below (recAt p (f .rec)) (getD (roles (rowAt (codeOf p f) (f .at))) i plain) (getD (operandsAt (codeOf p f) (f .at)) i 0)
+  -- j): "In a run of a passing file every register so named, or given a role in c), is below nregs."
+  pub registers : (x : ℕ) → Names (codeOf p f) (f .at) x → x < recAt p (f .rec) .nregs
   pub line : lineAt (recAt p (f .rec) .lines) (f .at) ≡ lastAtOrBelow (recAt p (f .rec) .lines) (f .at)
 
 -- "Follow answers finished exactly when the run is, else top frame, line and number of frames, and its frame table holds the frames, lowest

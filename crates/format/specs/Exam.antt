@@ -1,4 +1,5 @@
--- Examination: conditions 15 to 20 of paper 01 and 25 of paper 02 b), and the examination that answers the first that is met in the papers' order.
+-- Examination: conditions 15 to 20 of paper 01, 17 widened by paper 02 j), and 25 of b), and the examination that answers the first that is met in the
+-- papers' order.
 -- Assumes nothing.
 use Prim.Native.Nat.{ℕ, zero, suc, _<_}
 use mathlib.Core.Path.{_≡_}
@@ -11,6 +12,7 @@ use Rattle.format.specs.Bytes.{Answer, ok, refused, bind, refuse, first,
 use Rattle.format.specs.File.{Content}
 use Rattle.format.specs.Load.{Nine, Loaded, loading, laid}
 use Rattle.format.specs.Insn.{Role, reg, pool, sym, child, plain, Flow, on, ends, jumps, may, roles, flow, known, prefix, opcode, rowAt, operandsAt, rest, next}
+use Rattle.format.specs.Registers.{Range, registersAt, Names}
 use Rattle.format.specs.Line.{entry, rising}
 use Rattle.format.specs.Tree.{Whole, whole}
 use Rattle.format.specs.Pattern.{Record, Pattern, patternOf, ilen, clen, recAt, rlens, begins, lands}
@@ -48,6 +50,14 @@ allBelow r (x ∷ xs) (v ∷ vs) = below r x v && allBelow r xs vs
 unfoldable pub operandsBelow : Record → ℕ → Bool
 operandsBelow r o = allBelow r (roles (rowAt (r .code) o)) (operandsAt (r .code) o)
 
+-- j): "each register that insn.rs's comments name" is below nregs
+unfoldable pub rangeBelow : Record → Range → Bool
+rangeBelow r x = leb (x .upto) (x .from) || leb (x .upto) (r .nregs)
+
+-- "Refusal 17 widens so"
+unfoldable pub fits : Record → ℕ → Bool
+fits r o = operandsBelow r o && rangeBelow r (registersAt (r .code) o)
+
 -- 18: an instruction begins where the run can go on; n: one begins at the next offset; t: one begins at the target
 abbrev pub leads : Flow → Bool → Bool → Bool
 leads on n t = n
@@ -77,13 +87,22 @@ pub record Bad25 (r : Record) : Type 0 where
   pub starts : T (begins (r .code) at)
   pub alone : T (stray (r .code) at)
 
--- "17: an operand not below nregs, pool count, symbol count or rlen by its role."
+-- "17: an operand not below nregs, pool count, symbol count or rlen by its role",
+pub record HighOperand (r : Record) (o : ℕ) : Type 0 where
+  pub i : ℕ
+  pub given : i < length (roles (rowAt (r .code) o))
+  pub above : ¬ Below r (getD (roles (rowAt (r .code) o)) i plain) (getD (operandsAt (r .code) o) i 0)
+
+-- and by j) a register named that is not below nregs
+pub record HighRegister (r : Record) (o : ℕ) : Type 0 where
+  pub register : ℕ
+  pub named : Names (r .code) o register
+  pub above : ¬ (register < r .nregs)
+
 pub record Bad17 (r : Record) : Type 0 where
   pub at : ℕ
   pub starts : T (begins (r .code) at)
-  pub i : ℕ
-  pub given : i < length (roles (rowAt (r .code) at))
-  pub above : ¬ Below r (getD (roles (rowAt (r .code) at)) i plain) (getD (operandsAt (r .code) at) i 0)
+  pub high : HighOperand r at ⊎ HighRegister r at
 
 -- "18: a jump target, or the next offset of a neither ending nor JMP nor JMPUW instruction, where none begins."
 abbrev pub hasNext : Flow → Bool
@@ -165,7 +184,7 @@ exam16 c = first (refuse 16 (ltb 0 (length c))) (firstAt (at16 c) c 0 0)
 
 -- "17 before 18 at each instruction in turn"
 abbrev pub at1718 : Record → ℕ → ℕ
-at1718 r o = first (refuse 17 (operandsBelow r o)) (refuse 18 (follows (r .code) o))
+at1718 r o = first (refuse 17 (fits r o)) (refuse 18 (follows (r .code) o))
 
 unfoldable pub exam1718 : Record → ℕ
 exam1718 r = firstAt (at1718 r) (r .code) 0 0

@@ -11,6 +11,7 @@ pub mod File
 pub mod Load
 pub mod Insn
 pub mod Rules
+pub mod Registers
 pub mod Sizes
 pub mod Line
 pub mod Lookup

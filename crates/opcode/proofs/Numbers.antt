@@ -1,17 +1,21 @@
 -- The digits of an opcode byte: at a byte, above 118, each of them, and the row that they are of.
 -- Assumes nothing.
-use Prim.Native.Nat.{ℕ, zero, suc, _/_, _%_, _≤_, _<_}
+use Prim.Native.Nat.{ℕ, zero, suc, _+_, _*_, _/_, _≤_, _<_}
 use native.Mathlib.Omega.{arith}
 use mathlib.Core.Path.{_≡_, refl, sym, ap, _∙_}
 use mathlib.Core.Bool.{Bool, true, false, cond}
 use mathlib.Core.List.{[]}
+use lib.Dec.{eqb, eqb→eq}
 use lib.ListN.{List·getD-eq-default}
 use borrow.Author.Tests.{le-ltb, ne-eqb}
 use Rattle.format.specs.Insn.{Kind, Z, BB, B, BS, BSS, BBB, S, W, Role, reg, pool, sym as symbol, child, plain, Flow, on, ends, jumps, may, NOP, Row, op}
-use Rattle.format.specs.Insn.{table, kind, flow, row, size}
+use Rattle.format.specs.Insn.{table, name, kind, flow, row, size}
 use Rattle.format.specs.Sizes.{kindNumber, among, haveFirst, haveSecond}
+use Rattle.format.specs.Registers.{Form, own, pair, triple, send, sendb, super, array, array2, push, post, hash, hashadd, comments, form}
+use Rattle.format.proofs.Table.{by-test}
 use Rattle.format.proofs.Prefix.{at-most-one, total-small}
-use Rattle.opcode.specs.Digits.{firstRole, secondRole, thirdRole, roleNumber, roleAt, flagInside, flagLast, flowAt, kindAt}
+use Rattle.opcode.specs.Digits.{firstRole, secondRole, thirdRole, roleNumber, roleAt, firstBy, firstNumber, formNumber, flagInside, flagLast, flowAt, kindAt}
+use Rattle.opcode.specs.Digits.{sizeIn, firstIn, secondIn, insideIn, lastIn, kindIn, firstByteIn, secondByteIn, thirdIn, formIn}
 use Rattle.opcode.specs.Digits.{firstByte, secondByte, rowDigits, instruction, digitsOf}
 
 pub at : {b k : ℕ} → b ≡ k → digitsOf k ≡ digitsOf b
@@ -61,57 +65,87 @@ kind-small BBB = omega arith
 kind-small S = omega arith
 kind-small W = omega arith
 
+first-by : (f : Form) (x : ℕ) → x < 5 → firstBy f x < 7
+first-by own x h = omega arith
+first-by pair x h = omega arith
+first-by triple x h = omega arith
+first-by send x h = omega arith
+first-by sendb x h = omega arith
+first-by super x h = omega arith
+first-by array x h = omega arith
+first-by array2 x h = omega arith
+first-by push x h = omega arith
+first-by post x h = omega arith
+first-by hash x h = omega arith
+first-by hashadd x h = omega arith
+
+pub first-small : (r : Row) → firstNumber r < 7
+first-small r = first-by (form (name r)) (roleNumber (firstRole r)) (role-small (firstRole r))
+
 -- each digit: d are the digits of an instruction of n bytes whose opcode has the row r
 module _ {d n : ℕ} (r : Row) (e : d ≡ rowDigits n r) (s : n < 64) where
-  pub size-digits : d % 64 ≡ n
+  pub size-digits : sizeIn d ≡ n
   size-digits = omega arith
 
-  pub first-digit : d / 64 % 8 ≡ roleNumber (firstRole r)
-  first-digit = omega (arith, role-small (firstRole r))
+  pub first-digit : firstIn d ≡ firstNumber r
+  first-digit = omega (arith, first-small r)
 
-  pub second-digit : d / 512 % 8 ≡ roleNumber (secondRole r)
-  second-digit = omega (arith, role-small (firstRole r), role-small (secondRole r))
+  pub second-digit : secondIn d ≡ roleNumber (secondRole r)
+  second-digit = omega (arith, first-small r, role-small (secondRole r))
 
-  pub third-digit : d / 4096 % 8 ≡ roleNumber (thirdRole r)
-  third-digit = omega (arith, role-small (firstRole r), role-small (secondRole r), role-small (thirdRole r))
+  pub inside-digit : insideIn d ≡ flagInside (flow r)
+  inside-digit = omega (arith, first-small r, role-small (secondRole r), inside-small (flow r))
 
-  pub inside-digit : d / 32768 % 8 ≡ flagInside (flow r)
-  inside-digit = omega (arith, role-small (firstRole r), role-small (secondRole r), role-small (thirdRole r), inside-small (flow r))
+  pub last-digit : lastIn d ≡ flagLast (flow r)
+  last-digit = omega (arith, first-small r, role-small (secondRole r), inside-small (flow r), last-small (flow r))
 
-  pub last-digit : d / 262144 % 8 ≡ flagLast (flow r)
-  last-digit =
-      omega (arith, role-small (firstRole r), role-small (secondRole r), role-small (thirdRole r), inside-small (flow r), last-small (flow r))
+  pub kind-digit : kindIn d ≡ kindNumber (kind r)
+  kind-digit = omega (arith, first-small r, role-small (secondRole r), inside-small (flow r), last-small (flow r), kind-small (kind r))
 
-  pub kind-digit : d / 2097152 % 8 ≡ kindNumber (kind r)
-  kind-digit =
-      omega (arith, role-small (firstRole r), role-small (secondRole r), role-small (thirdRole r), inside-small (flow r), last-small (flow r), kind-small (kind r))
-
-  pub first-byte-digit : d / 16777216 % 8 ≡ firstByte (kind r)
+  pub first-byte-digit : firstByteIn d ≡ firstByte (kind r)
   first-byte-digit =
       omega (
         arith,
-        role-small (firstRole r),
+        first-small r,
         role-small (secondRole r),
-        role-small (thirdRole r),
         inside-small (flow r),
         last-small (flow r),
         kind-small (kind r),
         at-most-one (among haveFirst (kind r)),
       )
 
-  pub second-byte-digit : d / 134217728 % 8 ≡ secondByte (kind r)
+  pub second-byte-digit : secondByteIn d ≡ secondByte (kind r)
   second-byte-digit =
       omega (
         arith,
-        role-small (firstRole r),
+        first-small r,
         role-small (secondRole r),
-        role-small (thirdRole r),
         inside-small (flow r),
         last-small (flow r),
         kind-small (kind r),
         at-most-one (among haveFirst (kind r)),
         at-most-one (among haveSecond (kind r)),
       )
+
+  -- what stands above those
+  upper : d / 134217728 ≡ roleNumber (thirdRole r) + 8 * formNumber (form (name r))
+  upper =
+      omega (
+        arith,
+        first-small r,
+        role-small (secondRole r),
+        inside-small (flow r),
+        last-small (flow r),
+        kind-small (kind r),
+        at-most-one (among haveFirst (kind r)),
+        at-most-one (among haveSecond (kind r)),
+      )
+
+  pub third-digit : thirdIn d ≡ roleNumber (thirdRole r)
+  third-digit = omega (arith, upper, role-small (thirdRole r))
+
+  pub form-digits : formIn d ≡ formNumber (form (name r))
+  form-digits = omega (arith, upper, role-small (thirdRole r))
 
 -- and what it is the number of
 pub role-back : (x : Role) → roleAt (roleNumber x) ≡ x
@@ -120,6 +154,20 @@ role-back reg = refl
 role-back pool = refl
 role-back symbol = refl
 role-back child = refl
+
+-- a first operand that is tested with what stands behind it is a register: one test of the table
+same-role : Role → Role → Bool
+same-role x y = eqb (roleNumber x) (roleNumber y)
+
+first-test : Row → Bool
+first-test r = same-role (roleAt (firstNumber r)) (firstRole r)
+
+pub role-same : (x y : Role) → roleNumber x ≡ roleNumber y → x ≡ y
+role-same x y e = sym (role-back x) ∙ ap roleAt e ∙ role-back y
+
+pub first-back : (b : ℕ) → roleAt (firstNumber (row b)) ≡ firstRole (row b)
+unfolding first-test same-role comments form table row
+first-back b = role-same _ _ (eqb→eq _ _ (by-test first-test tt b))
 
 flow-back : (w : Flow) → flowAt (flagInside w) (flagLast w) ≡ w
 flow-back on = refl
@@ -138,11 +186,11 @@ kind-back S = refl
 kind-back W = refl
 
 -- of a number that has no arm
-pub role-else : (n : ℕ) → NoneOf 5 n → plain ≡ roleAt n
+pub role-else : (n : ℕ) → NoneOf 5 n → reg ≡ roleAt n
 role-else n h = go n (not-below 5 n h)
   where
-    go : (n : ℕ) → 5 ≤ n → plain ≡ roleAt n
-    go zero s = refl
+    go : (n : ℕ) → 5 ≤ n → reg ≡ roleAt n
+    go zero s = absurd (omega arith)
     go (suc zero) s = absurd (omega arith)
     go (suc (suc zero)) s = absurd (omega arith)
     go (suc (suc (suc zero))) s = absurd (omega arith)
@@ -186,35 +234,35 @@ few b = go (instruction b)
 
 -- the row of an opcode byte, from its digits
 module _ (b : ℕ) {d : ℕ} (e : d ≡ digitsOf b) where
-  pub row-first : roleAt (d / 64 % 8) ≡ firstRole (row b)
-  row-first = ap roleAt (first-digit (row b) e (few b)) ∙ role-back (firstRole (row b))
+  pub row-first : roleAt (firstIn d) ≡ firstRole (row b)
+  row-first = ap roleAt (first-digit (row b) e (few b)) ∙ first-back b
 
-  pub row-second : roleAt (d / 512 % 8) ≡ secondRole (row b)
+  pub row-second : roleAt (secondIn d) ≡ secondRole (row b)
   row-second = ap roleAt (second-digit (row b) e (few b)) ∙ role-back (secondRole (row b))
 
-  pub row-third : roleAt (d / 4096 % 8) ≡ thirdRole (row b)
+  pub row-third : roleAt (thirdIn d) ≡ thirdRole (row b)
   row-third = ap roleAt (third-digit (row b) e (few b)) ∙ role-back (thirdRole (row b))
 
-  pub row-flow : flowAt (d / 32768 % 8) (d / 262144 % 8) ≡ flow (row b)
+  pub row-flow : flowAt (insideIn d) (lastIn d) ≡ flow (row b)
   row-flow = rw (inside-digit (row b) e (few b), last-digit (row b) e (few b)) (flow-back (flow (row b)))
 
-  pub row-kind : kindAt (d / 2097152 % 8) ≡ kind (row b)
+  pub row-kind : kindAt (kindIn d) ≡ kind (row b)
   row-kind = ap kindAt (kind-digit (row b) e (few b)) ∙ kind-back (kind (row b))
 
   -- no size, no instruction
-  pub no-size : d % 64 ≡ 0 → false ≡ instruction b
+  pub no-size : sizeIn d ≡ 0 → false ≡ instruction b
   no-size z = go (instruction b) refl
     where
       go : (x : Bool) → instruction b ≡ x → false ≡ x
       go false q = refl
-      go true q = let w : d % 64 ≡ size b = size-digits (row b) e (few b) ∙ rw q in absurd (omega arith)
+      go true q = let w : sizeIn d ≡ size b = size-digits (row b) e (few b) ∙ rw q in absurd (omega arith)
 
-  pub some-size : (d % 64 ≡ 0 → ⊥) → instruction b ≡ true
+  pub some-size : (sizeIn d ≡ 0 → ⊥) → instruction b ≡ true
   some-size z = go (instruction b) refl
     where
       go : (x : Bool) → instruction b ≡ x → x ≡ true
       go true q = refl
       go false q = absurd (z (size-digits (row b) e (few b) ∙ rw q))
 
-  pub size-is : instruction b ≡ true → d % 64 ≡ size b
+  pub size-is : instruction b ≡ true → sizeIn d ≡ size b
   size-is q = size-digits (row b) e (few b) ∙ rw q

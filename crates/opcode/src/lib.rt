@@ -81,7 +81,13 @@ const BB_REG_CHILD: usize = BB_REG + CHILD * SECOND;
 
 const BB_SYM_SYM: usize = BB + SYM * FIRST + SYM * SECOND + ON;
 
+const BB_PAIR_SYM: usize = BB + PAIR * FIRST + SYM * SECOND + ON;
+
 const B_REG: usize = B + REG * FIRST + ON;
+
+const B_PAIR: usize = B + PAIR * FIRST + ON;
+
+const B_TRIPLE: usize = B + TRIPLE * FIRST + ON;
 
 const B_REG_ENDS: usize = B + REG * FIRST + ENDS;
 
@@ -108,6 +114,25 @@ const BBB_REG_SYM_CHILD: usize = BBB_REG_SYM + CHILD * THIRD;
 const S_JUMPS: usize = S + JUMPS;
 
 const W_ON: usize = W + ON;
+
+// And with the registers that an opcode names by its operands.
+const SENT: usize = (NUMBER + OF_FIRST + ARGUMENTS_OF_THIRD) * FORM + BBB_REG_SYM;
+
+const SENT_BLOCK: usize = (2 * NUMBER + OF_FIRST + ARGUMENTS_OF_THIRD) * FORM + BBB_REG_SYM;
+
+const SUPER_SENT: usize = (2 * NUMBER + OF_FIRST + ARGUMENTS_OF_SECOND) * FORM + BB_REG;
+
+const FROM_FIRST: usize = (OF_FIRST + OF_SECOND) * FORM + BB_REG;
+
+const FROM_SECOND: usize = (OF_SECOND + OF_THIRD) * FORM + BBB_REG_REG;
+
+const PUSHED: usize = (NUMBER + OF_FIRST + OF_SECOND) * FORM + BB_REG;
+
+const SPREAD: usize = (NUMBER + OF_FIRST + OF_THIRD) * FORM + BBB_REG;
+
+const PAIRS: usize = (OF_FIRST + 2 * OF_SECOND) * FORM + BB_REG;
+
+const PAIRS_ADDED: usize = (NUMBER + OF_FIRST + 2 * OF_SECOND) * FORM + BB_REG;
 
 // A prefix and a byte above 118 are no instruction by themselves: NOP's row without a size.
 const NO_SIZE: usize = ON;
@@ -149,12 +174,12 @@ pub fn digits(b: u8) -> usize
         GETCONST => BB_REG_SYM,
         SETCONST => BB_REG_SYM,
         GETMCNST => BB_REG_SYM,
-        SETMCNST => BB_REG_SYM,
+        SETMCNST => BB_PAIR_SYM,
         GETUPVAR => BBB_REG,
         SETUPVAR => BBB_REG,
-        GETIDX => B_REG,
+        GETIDX => B_PAIR,
         GETIDX0 => BB_REG_REG,
-        SETIDX => B_REG,
+        SETIDX => B_TRIPLE,
         JMP => S_JUMPS,
         JMPIF => BS_REG_MAY,
         JMPNOT => BS_REG_MAY,
@@ -164,15 +189,15 @@ pub fn digits(b: u8) -> usize
         RESCUE => BB_REG_REG,
         RAISEIF => B_REG,
         MATCHERR => B_REG,
-        SSEND => BBB_REG_SYM,
+        SSEND => SENT,
         SSEND0 => BB_REG_SYM,
-        SSENDB => BBB_REG_SYM,
-        SEND => BBB_REG_SYM,
+        SSENDB => SENT_BLOCK,
+        SEND => SENT,
         SEND0 => BB_REG_SYM,
-        SENDB => BBB_REG_SYM,
+        SENDB => SENT_BLOCK,
         CALL => Z_ENDS,
         BLKCALL => BB_REG,
-        SUPER => BB_REG,
+        SUPER => SUPER_SENT,
         ARGARY => BS_REG,
         ENTER => W_ON,
         KEY_P => BB_REG_SYM,
@@ -186,44 +211,44 @@ pub fn digits(b: u8) -> usize
         RETFALSE => Z_ENDS,
         BREAK => B_REG_ENDS,
         BLKPUSH => BS_REG,
-        ADD => B_REG,
+        ADD => B_PAIR,
         ADDI => BB_REG,
-        SUB => B_REG,
+        SUB => B_PAIR,
         SUBI => BB_REG,
         ADDILV => BBB_REG,
         SUBILV => BBB_REG,
-        MUL => B_REG,
-        DIV => B_REG,
-        EQ => B_REG,
-        LT => B_REG,
-        LE => B_REG,
-        GT => B_REG,
-        GE => B_REG,
-        ARRAY => BB_REG,
-        ARRAY2 => BBB_REG_REG,
-        ARYCAT => B_REG,
-        ARYPUSH => BB_REG,
+        MUL => B_PAIR,
+        DIV => B_PAIR,
+        EQ => B_PAIR,
+        LT => B_PAIR,
+        LE => B_PAIR,
+        GT => B_PAIR,
+        GE => B_PAIR,
+        ARRAY => FROM_FIRST,
+        ARRAY2 => FROM_SECOND,
+        ARYCAT => B_PAIR,
+        ARYPUSH => PUSHED,
         ARYSPLAT => B_REG,
         AREF => BBB_REG_REG,
         ASET => BBB_REG_REG,
-        APOST => BBB_REG,
+        APOST => SPREAD,
         INTERN => B_REG,
         SYMBOL => BB_REG_POOL,
         STRING => BB_REG_POOL,
-        STRCAT => B_REG,
-        HASH => BB_REG,
-        HASHADD => BB_REG,
-        HASHCAT => B_REG,
+        STRCAT => B_PAIR,
+        HASH => PAIRS,
+        HASHADD => PAIRS_ADDED,
+        HASHCAT => B_PAIR,
         LAMBDA => BB_REG_CHILD,
         BLOCK => BB_REG_CHILD,
         METHOD => BB_REG_CHILD,
-        RANGE_INC => B_REG,
-        RANGE_EXC => B_REG,
+        RANGE_INC => B_PAIR,
+        RANGE_EXC => B_PAIR,
         OCLASS => B_REG,
-        CLASS => BB_REG_SYM,
+        CLASS => BB_PAIR_SYM,
         MODULE => BB_REG_SYM,
         EXEC => BB_REG_CHILD,
-        DEF => BB_REG_SYM,
+        DEF => BB_PAIR_SYM,
         TDEF => BBB_REG_SYM_CHILD,
         SDEF => BBB_REG_SYM_CHILD,
         ALIAS => BB_SYM_SYM,
@@ -240,7 +265,7 @@ pub fn digits(b: u8) -> usize
     }
 }
 
-// The role of this number.
+// The role of this number: one that is tested with what stands behind it is a register's.
 fn role_of(n: usize) -> Role
     ensures { λ r. ⌜ roleOf r ≡ roleAt n ⌝ }
 {
@@ -250,7 +275,7 @@ fn role_of(n: usize) -> Role
         POOL => Role::Pool,
         SYM => Role::Sym,
         CHILD => Role::Child,
-        _ => Role::Plain,
+        _ => Role::Reg,
     }
 }
 

@@ -8,14 +8,12 @@ use mathlib.Core.Logic.{_↔_}
 use mathlib.Core.List.{List, [], _∷_}
 use lib.Dec.{T}
 use lib.ListN.{length, getD, length-map}
-use Rattle.format.specs.Insn.{roles, rowAt, operandsAt}
 use Rattle.format.specs.Line.{lineAt, lastAtOrBelow}
 use Rattle.format.specs.Pattern.{Record, Pattern, recAt, rlens, begins}
-use Rattle.format.specs.Exam.{operandsBelow}
 use Rattle.format.specs.Run.{Choice, Frame, frame, codeOf, start, run, standing, finished, stands}
 use Rattle.format.specs.Claim.{FrameHolds}
 use Rattle.runs.specs.Stack.{Stack}
-use Rattle.runs.proofs.Roles.{all-below, args-fit}
+use Rattle.runs.proofs.Registers.{below-of, named-below}
 use Rattle.runs.proofs.Tree.{whole-iff}
 use Rattle.runs.proofs.Line.{line-last}
 use Rattle.runs.proofs.Begins.{begins-iff}
@@ -24,7 +22,6 @@ use Rattle.runs.proofs.Safe.{begins-zero, keeps-run}
 
 module _ (p : Pattern) (G : GoodFile p) where
   frame-holds : (f : Frame) → f .rec < length p → T (begins (codeOf p f) (f .at)) → FrameHolds p f
-  unfolding operandsBelow
   frame-holds f h t =
       let g = G .each-rec (f .rec) h in
       record {
@@ -32,9 +29,8 @@ module _ (p : Pattern) (G : GoodFile p) where
         starts = begins-iff (codeOf p f) (f .at) .0 t;
         paired = g .paired (f .at) t;
         whole = g .reads (f .at) t;
-        operands =
-            all-below (recAt p (f .rec)) (roles (rowAt (codeOf p f) (f .at))) (operandsAt (codeOf p f) (f .at)) (g .fit (f .at) t)
-            (args-fit (codeOf p f) (f .at));
+        operands = below-of (recAt p (f .rec)) (f .at) (g .fit (f .at) t);
+        registers = named-below (recAt p (f .rec)) (f .at) (g .fit (f .at) t);
         line = line-last (recAt p (f .rec) .lines) (g .rise) (f .at);
       }
 

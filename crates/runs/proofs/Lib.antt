@@ -4,6 +4,7 @@ pub mod Line
 pub mod Table
 pub mod Roles
 pub mod Operands
+pub mod Registers
 pub mod Begins
 pub mod Exact
 pub mod Safe

@@ -35,26 +35,6 @@ plain-only symbol t = absurd t
 plain-only child t = absurd t
 plain-only plain t = refl
 
--- an operand that has a role stands inside the instruction
-has-role : (xs : List Role) (i : ℕ) → T (numbers (getD xs i plain)) → i < length xs
-unfolding numbers
-has-role [] i t = absurd t
-has-role (x ∷ xs) zero t = omega arith
-has-role (x ∷ xs) (suc i) t = suc-le-suc (has-role xs i t)
-
-fields-width : (k : Kind) → length (fields k) ≤ width k
-fields-width Z = omega arith
-fields-width BB = omega arith
-fields-width B = omega arith
-fields-width BS = omega arith
-fields-width BSS = omega arith
-fields-width BBB = omega arith
-fields-width S = omega arith
-fields-width W = omega arith
-
-pub role-inside : (b i : ℕ) → T (numbers (getD (roles (row b)) i plain)) → i < width (kind (row b))
-role-inside b i t = omega (arith, has-role (roles (row b)) i t, roles-length b, fields-width (kind (row b)))
-
 -- the role of operand i of the instruction at o; one that it lacks is plain
 abbrev pub roleIn : List ℕ → ℕ → ℕ → Role
 roleIn c o i = getD (roles (rowAt c o)) i plain
@@ -132,25 +112,6 @@ module _ {A : Type 0} (f : Role → ℕ → A → A) (z : A) (skip : (v : ℕ) (
       asked-agree xs (fieldsAt c o) (x ∷ y ∷ 1 ∷ []) c (firstPlace c o) (widths-all (widensFirst b) (widensSecond b) (opcode c o))
       ∙ asked-three xs (operand x c (firstPlace c o)) (operand y c (secondPlace c o)) (byte c (thirdPlace c o))
 
-  -- behind a prefix
-  asked-behind : (c : List ℕ) (o : ℕ) → prefix (byte c o) ≡ true
-      → let x = firstWidth (byte c o) in let y = secondWidth (byte c o) in
-      asked (roles (rowAt c o)) (operandsAt c o)
-      ≡ f (roleIn c o 0) (operand x c (o + 2)) (f (roleIn c o 1) (operand y c (o + 2 + x)) (f (roleIn c o 2) (byte c (o + 2 + x + y)) z))
-  asked-behind c o e =
-      let two : firstPlace c o ≡ o + 2 = rw e (omega arith) in
-      asked-places c o ∙ rw two
-
-  -- and without one: the three bytes behind the opcode
-  asked-bytes : (c : List ℕ) (o : ℕ) → prefix (byte c o) ≡ false
-      → asked (roles (rowAt c o)) (operandsAt c o)
-      ≡ f (roleIn c o 0) (byte c (o + 1)) (f (roleIn c o 1) (byte c (o + 2)) (f (roleIn c o 2) (byte c (o + 3)) z))
-  asked-bytes c o e =
-      let one : firstPlace c o ≡ o + 1 = rw e (omega arith) in
-      let two : o + 1 + 1 ≡ o + 2 = omega arith in
-      let three : o + 2 + 1 ≡ o + 3 = omega arith in
-      asked-places c o ∙ rw (one, no-first (byte c o) e, no-second (byte c o) e, two, three)
-
 -- 17
 module _ (r : Record) where
   andBelow : Role → ℕ → Bool → Bool
@@ -166,24 +127,15 @@ module _ (r : Record) where
   below-asked (x ∷ xs) [] = refl
   below-asked (x ∷ xs) (v ∷ vs) = ap (λ (a : Bool). below r x v && a) (below-asked xs vs)
 
-  pub below-behind : (o : ℕ) → prefix (byte (r .code) o) ≡ true
-      → let c = r .code in let x = firstWidth (byte c o) in let y = secondWidth (byte c o) in
-      operandsBelow r o
-      ≡ (below r (roleIn c o 0) (operand x c (o + 2))
-      && (below r (roleIn c o 1) (operand y c (o + 2 + x)) && (below r (roleIn c o 2) (byte c (o + 2 + x + y)) && true)))
-  unfolding operandsBelow andBelow
-  below-behind o e =
-      let c = r .code in
-      below-asked (roles (rowAt c o)) (operandsAt c o) ∙ asked-behind andBelow true plain-below c o e
-
-  pub below-bytes : (o : ℕ) → prefix (byte (r .code) o) ≡ false
+  pub below-places : (o : ℕ)
       → let c = r .code in
       operandsBelow r o
-      ≡ (below r (roleIn c o 0) (byte c (o + 1)) && (below r (roleIn c o 1) (byte c (o + 2)) && (below r (roleIn c o 2) (byte c (o + 3)) && true)))
+      ≡ (below r (roleIn c o 0) (operand (firstWidth (byte c o)) c (firstPlace c o))
+      && (below r (roleIn c o 1) (operand (secondWidth (byte c o)) c (secondPlace c o)) && (below r (roleIn c o 2) (byte c (thirdPlace c o)) && true)))
   unfolding operandsBelow andBelow
-  below-bytes o e =
+  below-places o =
       let c = r .code in
-      below-asked (roles (rowAt c o)) (operandsAt c o) ∙ asked-bytes andBelow true plain-below c o e
+      below-asked (roles (rowAt c o)) (operandsAt c o) ∙ asked-places andBelow true plain-below c o
 
 -- the child that an operand v of a role numbers, or what others do
 abbrev pub childOr : Role → ℕ → Option ℕ → Option ℕ

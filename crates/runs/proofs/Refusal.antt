@@ -10,15 +10,15 @@ use mathlib.Core.List.{List, [], _∷_}
 use lib.Dec.{T, T-not, ltb, leb, nltb→le, nleb→lt}
 use lib.ListN.{length, getD}
 use Rattle.format.specs.Rows.{LineRow}
-use Rattle.format.specs.Insn.{Flow, on, ends, jumps, may, plain, roles, flow, rowAt, operandsAt, next}
+use Rattle.format.specs.Insn.{Flow, on, ends, jumps, may, flow, rowAt, next}
 use Rattle.format.specs.Line.{entry, rising}
 use Rattle.format.specs.Tree.{Whole, whole}
 use Rattle.format.specs.Pattern.{Record, Pattern, ilen, recAt, blank, begins, lands, rlens}
-use Rattle.format.specs.Exam.{Below, leads, hasNext, hasTarget, stray, readable, operandsBelow, follows, Bad16, Bad17, Bad18, Bad19, Bad20, Bad25, Some}
+use Rattle.format.specs.Exam.{leads, hasNext, hasTarget, stray, readable, fits, follows, Bad16, Bad17, Bad18, Bad19, Bad20, Bad25, Some}
 use Rattle.format.specs.Bytes.{refuse, first}
 use Rattle.format.specs.Exam.{Meets, meets15, meets16, meets17, meets18, meets19, meets20, meets25, Passes, firstAt, at16, at1718, exam16, exam1718}
 use Rattle.format.specs.Exam.{exam19, exam20, examineRecord, examineAll, examinePattern}
-use Rattle.runs.proofs.Roles.{all-below, args-fit, Above, some-above}
+use Rattle.runs.proofs.Registers.{none-high, some-high}
 use Rattle.format.proofs.Table.{both}
 use Rattle.format.proofs.Answers.{first-zero, zero-first, refuse-zero, refuse-pass, first-hit, refuse-hit}
 use Rattle.runs.proofs.Tests.{Hit, firstAt-hit, firstOf-hit}
@@ -26,16 +26,7 @@ use Rattle.runs.proofs.Tree.{whole-iff}
 use Rattle.runs.proofs.Line.{mono}
 use Rattle.runs.proofs.Exact.{GoodFile, good-file}
 
--- The tests of 17 and 18 against their words.
-
-below-of : (r : Record) (o : ℕ) → T (operandsBelow r o) → (i : ℕ) → i < length (roles (rowAt (r .code) o))
-    → Below r (getD (roles (rowAt (r .code) o)) i plain) (getD (operandsAt (r .code) o) i 0)
-unfolding operandsBelow
-below-of r o t = all-below r (roles (rowAt (r .code) o)) (operandsAt (r .code) o) t (args-fit (r .code) o)
-
-above-of : (r : Record) (o : ℕ) → T (not (operandsBelow r o)) → Above r (roles (rowAt (r .code) o)) (operandsAt (r .code) o)
-unfolding operandsBelow
-above-of r o t = some-above r (roles (rowAt (r .code) o)) (operandsAt (r .code) o) t
+-- The test of 18 against its words.
 
 leads-lost : (w : Flow) (n t : Bool) → T (not (leads w n t)) → (T (hasNext w) × T (not n)) ⊎ (T (hasTarget w) × T (not t))
 leads-lost on n t h = inl (tt, h)
@@ -74,7 +65,7 @@ no-meet F G n (meets16 s) = go (s .holds)
     go (inr b) = T-not (readable (recAt F (s .rec) .code) (b .at)) (b .fails) (G .each-rec (s .rec) (s .inside) .reads (b .at) (b .starts))
 no-meet F G n (meets17 s) =
     let b = s .holds in
-    b .above (below-of (recAt F (s .rec)) (b .at) (G .each-rec (s .rec) (s .inside) .fit (b .at) (b .starts)) (b .i) (b .given))
+    none-high (recAt F (s .rec)) (b .at) (G .each-rec (s .rec) (s .inside) .fit (b .at) (b .starts)) (b .high)
 no-meet F G n (meets18 s) = not-lost (recAt F (s .rec) .code) (s .holds .at) (G .each-rec (s .rec) (s .inside) .go (s .holds .at) (s .holds .starts)) (s .holds .lost)
 no-meet F G n (meets19 s) =
     T-not (begins (recAt F (s .rec) .code) (getD (recAt F (s .rec) .handlers) (s .holds .h) 0)) (s .holds .none-begins) (G .each-rec (s .rec) (s .inside) .caught (s .holds .h) (s .holds .given))
@@ -137,12 +128,12 @@ module _ (r : Record) (n : ℕ) where
   unfolding exam1718
   hit1718 e = at (firstAt-hit (at1718 r) (r .code) 0 0 n e)
     where
-      go : (o : ℕ) → T (begins (r .code) o) → (refuse 17 (operandsBelow r o) ≡ suc n) ⊎ (refuse 18 (follows (r .code) o) ≡ suc n) → Bad r (suc n)
-      go o t (inl e) = let h = refuse-hit 17 n (operandsBelow r o) e in let w = above-of r o (h .1) in same (h .0) (bad17 (record { at = o; starts = t; i = w .i; given = w .given; above = w .above }))
+      go : (o : ℕ) → T (begins (r .code) o) → (refuse 17 (fits r o) ≡ suc n) ⊎ (refuse 18 (follows (r .code) o) ≡ suc n) → Bad r (suc n)
+      go o t (inl e) = let h = refuse-hit 17 n (fits r o) e in same (h .0) (bad17 (record { at = o; starts = t; high = some-high r o (h .1) }))
       go o t (inr e) = let h = refuse-hit 18 n (follows (r .code) o) e in same (h .0) (bad18 (record { at = o; starts = t; lost = lost-of (r .code) o (h .1) }))
 
       at : Hit (at1718 r) (r .code) 0 0 (suc n) → Bad r (suc n)
-      at i = go (i .at) (i .starts) (first-hit (refuse 17 (operandsBelow r (i .at))) (refuse 18 (follows (r .code) (i .at))) n (rw zero-add at (i .gives)))
+      at i = go (i .at) (i .starts) (first-hit (refuse 17 (fits r (i .at))) (refuse 18 (follows (r .code) (i .at))) n (rw zero-add at (i .gives)))
 
   hit19 : exam19 r ≡ suc n → Bad r (suc n)
   unfolding exam19

@@ -9,7 +9,8 @@ use lib.ListN.{length}
 use Rattle.format.specs.Bytes.{byte}
 use Rattle.format.specs.Insn.{prefix}
 use Rattle.opcode.proofs.Numbers.{no-size}
-use Rattle.flags.proofs.Roles.{flag-told}
+use Rattle.format.proofs.Prefix.{first-one-or-two, second-one-or-two}
+use Rattle.flags.proofs.Roles.{numbered, fits-behind, flag-told}
 use Rattle.flags.proofs.Tested.{lead-none, lead-some, tested-stray, tested-unreadable, tested-whole, cut, whole, not-stray, unknown-alone}
 use Rattle.flags.proofs.Tested.{stray-last, stray-again, not-again, unknown-behind, not-stray-behind, looked-behind, known-behind, next-behind}
 use borrow.Author.Needs.{needs}
@@ -83,33 +84,43 @@ returns-5 c =
 
 operands-below-requires : tie.Need-operands-below-requires
 operands-below-requires c κs =
-    let if3 = c .before .before in
+    let first = c .before in
+    let if3 = first .before .before .before in
     let digits = if3 .before in
     let if2 = digits .before .before in
     let start = if2 .before .before .before .before .before .before in
-    let p = at-prefix (if2 .before) in
-    (start .pre .0, (looked-behind (start .args .code .now) (start .args .i) (more if2) p (digits .digits .ensures) (if3 .if3 .left), p))
+    let code = start .args .code .now in
+    let b = byte code (start .args .i) in
+    let k = looked-behind code (start .args .i) (more if2) (at-prefix (if2 .before)) (digits .digits .ensures) (if3 .if3 .left) in
+    let x = first-one-or-two b (first .first-width .ensures) in
+    let y = second-one-or-two b (c .second-width .ensures) in
+    (start .pre .0, (numbered k, (x .0, x .1, y .0, y .1, omega (arith, k .inside))))
 
 returns-6 : tie.Need-returns-6
 returns-6 c =
     let flag = c .before in
     let below = flag .before in
-    let if5 = below .before in
+    let second = below .before in
+    let first = second .before in
+    let if5 = first .before in
     let size = if5 .before in
     let if3 = size .before in
     let digits = if3 .before in
     let if2 = digits .before .before in
-    let a = if2 .before .before .before .before .before .before .args in
+    let start = if2 .before .before .before .before .before .before in
+    let a = start .args in
     let code = a .code .now in
     let p = at-prefix (if2 .before) in
     let h = more if2 in
     let e = digits .digits .ensures in
     let s = if3 .if3 .left in
     let n = next-behind code (a .i) h p e s (size .size-behind .ensures .0) in
+    let k = looked-behind code (a .i) h p e s in
+    let f = fits-behind k (start .pre .0) p (first .first-width .ensures) (second .second-width .ensures) (below .operands-below .ensures) in
     tested-whole (a .limits .now) code (a .i) (not-stray-behind code (a .i) h p e s)
     (whole code (a .i) (known-behind code (a .i) h p e s) (omega (arith, n, if5 .if5 .left)))
     (omega (arith, n))
-    (c .wide .ensures .0 ∙ flag .flag-of .ensures .0 ∙ flag-told (looked-behind code (a .i) h p e s) (a .limits .now) (below .operands-below .ensures) (ap (λ (x : ℕ). ltb x (length code)) n))
+    (c .wide .ensures .0 ∙ flag .flag-of .ensures .0 ∙ flag-told k (a .limits .now) f (ap (λ (x : ℕ). ltb x (length code)) n))
 
 pub test-behind-spec : {M : Type 1} → statement M
 test-behind-spec =
@@ -128,10 +139,13 @@ test-behind-spec =
     (λ c κs. search needs)
     (λ c. search needs)
     returns-5
+    (λ c. search needs)
+    (λ c κs. search needs)
+    (λ c κs. search needs)
     operands-below-requires
     (λ c. search needs)
     (λ c κs. search needs)
     (λ c κs. search needs)
     (λ c. omega (arith, c .wide .ensures .1))
-    (λ c. omega (arith, c .wide .ensures .1, c .before .before .before .before .size-behind .ensures .1))
+    (λ c. omega (arith, c .wide .ensures .1, c .before .before .before .before .before .before .size-behind .ensures .1))
     returns-6)

@@ -1,12 +1,13 @@
 -- `opcode::digits` meets its contract: each arm has the digits of its byte.
 -- Assumes nothing.
 use Rattle.format.specs.Insn.{table, row}
+use Rattle.format.specs.Registers.{comments, form}
 use Rattle.opcode.proofs.Numbers.{at, above}
 use Rattle.opcode.proofs.digits.Statement.{statement}
 use Rattle.opcode.proofs.digits.Tie as tie
 
 pub digits-spec : {M : Type 1} → statement M
-unfolding row table
+unfolding row table comments form
 digits-spec =
     tie.close
     (tie.spec
