@@ -15,7 +15,7 @@ use Rattle.format.specs.Line.{rowsFrom}
 use Rattle.format.specs.Lookup.{word}
 use Rattle.format.specs.Tree.{layout, whole}
 use Rattle.format.specs.Pattern.{Record, rlens}
-use Rattle.format.specs.Exam.{below, allBelow, operandsBelow, rangeBelow, fits, follows, firstAt, at1718, exam1718, exam19, exam20, examineRecord, examineAll, examinePattern}
+use Rattle.format.specs.Exam.{below, allBelow, operandsBelow, rangeBelow, bounded, follows, firstAt, at1718, exam1718, exam19, exam20, examineRecord, examineAll, examinePattern}
 use Rattle.format.proofs.RowsFrom.{rowsFrom-map}
 use Rattle.flags.specs.Flags.{bare}
 use Rattle.exam.specs.View.{recordAt, patternAt, rlensAt}
@@ -55,14 +55,14 @@ module _ (l : List ℕ) (R : Record) (s : Same l R) where
   unfolding rangeBelow
   range-same x = rw (s .regs)
 
-  fits-same : (o : ℕ) → fits (bare l (R .code)) o ≡ fits R o
-  unfolding fits operandsBelow
-  fits-same o = rw (all-same (roles (rowAt (R .code) o)) (operandsAt (R .code) o), range-same (registersAt (R .code) o))
+  bounded-same : (o : ℕ) → bounded (bare l (R .code)) o ≡ bounded R o
+  unfolding bounded operandsBelow
+  bounded-same o = rw (all-same (roles (rowAt (R .code) o)) (operandsAt (R .code) o), range-same (registersAt (R .code) o))
 
   bare-same : exam1718 (bare l (R .code)) ≡ exam1718 R
   unfolding exam1718
   bare-same =
-      firstAt-same (at1718 (bare l (R .code))) (at1718 R) (λ o. ap (λ (b : Bool). first (refuse 17 b) (refuse 18 (follows (R .code) o))) (fits-same o)) (R .code) 0 0
+      firstAt-same (at1718 (bare l (R .code))) (at1718 R) (λ o. ap (λ (b : Bool). first (refuse 17 b) (refuse 18 (follows (R .code) o))) (bounded-same o)) (R .code) 0 0
 
 -- the words that the code reads, and two that it counts
 abbrev pub limitsAt : List ℕ → ℕ → ℕ → ℕ → List ℕ

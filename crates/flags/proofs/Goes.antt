@@ -11,7 +11,7 @@ use borrow.Author.Tests.{ltb-true, ltb-false, le-leb, lt-leb, lt-ltb}
 use Rattle.format.specs.Bytes.{byte, refuse, first}
 use Rattle.format.specs.Insn.{Flow, on, ends, jumps, may, flow, rowAt, next, signed16, jump, target}
 use Rattle.format.specs.Pattern.{Record, begins, lands}
-use Rattle.format.specs.Exam.{leads, hasTarget, fits, follows, at1718}
+use Rattle.format.specs.Exam.{leads, hasTarget, bounded, follows, at1718}
 use Rattle.runs.proofs.Begins.{reach-inside, begins-next}
 use Rattle.runs.proofs.Jumps.{jump-wide, operand}
 use Rattle.opcode.specs.Digits.{flagInside, flagLast}
@@ -38,7 +38,7 @@ flow-some false may = omega arith
 
 flag-some : (R : Record) (o : ℕ) → 0 < flagAt R o
 unfolding flagAt
-flag-some R o = go (fits R o)
+flag-some R o = go (bounded R o)
   where
     go : (p : Bool) → 0 < cond p (cond (ltb (next (R .code) o) (length (R .code))) (flagInside (flow (rowAt (R .code) o))) (flagLast (flow (rowAt (R .code) o)))) 2
     go true = flow-some (ltb (next (R .code) o) (length (R .code))) (flow (rowAt (R .code) o))
@@ -104,7 +104,7 @@ flow-jumps false may e = absurd (omega arith)
 
 pub flag-wide : (R : Record) (o : ℕ) → flagAt R o ≡ 3 → o + 3 ≤ next (R .code) o
 unfolding flagAt
-flag-wide R o e = jump-wide (R .code) o (go (fits R o) e)
+flag-wide R o e = jump-wide (R .code) o (go (bounded R o) e)
   where
     go : (p : Bool)
         → cond p (cond (ltb (next (R .code) o) (length (R .code))) (flagInside (flow (rowAt (R .code) o))) (flagLast (flow (rowAt (R .code) o)))) 2 ≡ 3
@@ -114,7 +114,7 @@ flag-wide R o e = jump-wide (R .code) o (go (fits R o) e)
 
 pub judged-is : (R : Record) (o : ℕ) → begins (R .code) o ≡ true → at1718 R o ≡ judged (flagAt R o) (landsFrom (R .code) (next (R .code) o))
 unfolding flagAt judged follows
-judged-is R o b = go (fits R o)
+judged-is R o b = go (bounded R o)
   where
     c : List ℕ
     c = R .code

@@ -15,7 +15,7 @@ use Rattle.format.specs.Sizes.{kindNumber, among, haveFirst, haveSecond}
 use Rattle.format.specs.Registers.{Form, own, pair, triple, send, sendb, super, array, array2, push, post, hash, hashadd}
 use Rattle.format.specs.Registers.{Range, range, arguments, named, comments, form}
 use Rattle.format.specs.Pattern.{Record}
-use Rattle.format.specs.Exam.{below, rangeBelow, fits}
+use Rattle.format.specs.Exam.{below, rangeBelow, bounded}
 use Rattle.format.proofs.Table.{both, by-test}
 use Rattle.runs.specs.Places.{firstPlace, secondPlace, thirdPlace}
 use Rattle.runs.proofs.Operands.{below-places}
@@ -246,10 +246,10 @@ module _ {l : List ℕ} (h : Limits l) (code : List ℕ) (q : Row) (a b c : ℕ)
 
 -- 17 at the instruction at o, by the operands that the code reads
 module _ {l : List ℕ} (h : Limits l) (c : List ℕ) (o : ℕ) {d : ℕ} (e : d ≡ digitsOf (opcode c o)) where
-  pub fits-by : belowBy l d (operand (firstWidth (byte c o)) c (firstPlace c o)) (operand (secondWidth (byte c o)) c (secondPlace c o)) (byte c (thirdPlace c o))
-      ≡ fits (bare l c) o
-  unfolding fits suiting tests counts operandOf
-  fits-by =
+  pub bounded-by : belowBy l d (operand (firstWidth (byte c o)) c (firstPlace c o)) (operand (secondWidth (byte c o)) c (secondPlace c o)) (byte c (thirdPlace c o))
+      ≡ bounded (bare l c) o
+  unfolding bounded suiting tests counts operandOf
+  bounded-by =
       let r = bare l c in
       let q = rowAt c o in
       let f = form (name q) in

@@ -12,7 +12,7 @@ use borrow.Author.Tests.{le-leb, lt-leb, leb-true, leb-false, ne-eqb}
 use Rattle.format.specs.Bytes.{byte, refuse}
 use Rattle.format.specs.Insn.{Kind, Z, BB, B, BS, BSS, BBB, S, W, Flow, total, fieldsBy, width, kind, flow, size, known, prefix, lead}
 use Rattle.format.specs.Insn.{firstWidth, secondWidth, opcode, rowAt, next}
-use Rattle.format.specs.Exam.{stray, readable, fits, at16}
+use Rattle.format.specs.Exam.{stray, readable, bounded, at16}
 use Rattle.format.proofs.Answers.{false-true}
 use Rattle.format.proofs.Prefix.{at-most-one, first-one-or-two, second-one-or-two, fields-small}
 use Rattle.runs.proofs.Next.{rest-at, next-at, next-alone, opcode-alone, opcode-behind}
@@ -196,7 +196,7 @@ number-small false false = omega arith
 
 flag-small : (l c : List ℕ) (o : ℕ) → flagAt (bare l c) o < 8
 unfolding flagAt
-flag-small l c o = go (fits (bare l c) o) (ltb (next c o) (length c))
+flag-small l c o = go (bounded (bare l c) o) (ltb (next c o) (length c))
   where
     w : Flow
     w = flow (rowAt c o)

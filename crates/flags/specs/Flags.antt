@@ -9,7 +9,7 @@ use lib.ListN.{length, getD, drop}
 use Rattle.format.specs.Bytes.{byte, u16At, refuse}
 use Rattle.format.specs.Insn.{flow, prefix, firstWidth, secondWidth, opcode, rowAt, rest, next, signed16}
 use Rattle.format.specs.Pattern.{Record, begins}
-use Rattle.format.specs.Exam.{fits, at16}
+use Rattle.format.specs.Exam.{bounded, at16}
 use Rattle.opcode.specs.Digits.{flagInside, flagLast, endBy, sizeIn, firstIn, secondIn, insideIn, lastIn, firstByteIn, secondByteIn, thirdIn, formIn, digitsOf}
 
 -- what operands have to stay below, by the number of their role: 65536 where it is plain, less by one and by two where registers behind it count
@@ -67,7 +67,7 @@ belowBy l d a b e =
 unfoldable pub flagAt : Record → ℕ → ℕ
 flagAt r o =
     cond
-    (fits r o)
+    (bounded r o)
     (cond (ltb (next (r .code) o) (length (r .code))) (flagInside (flow (rowAt (r .code) o))) (flagLast (flow (rowAt (r .code) o))))
     2
 

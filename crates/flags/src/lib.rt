@@ -99,8 +99,11 @@ fn end_of(sum: usize, a: usize, b: usize, c: usize) -> usize
     requires { ⌜ (a < 65536) × (b < 65536) × (c < 65536) ⌝ }
     ensures { λ r. ⌜ r ≡ endBy sum a b c ⌝ }
 {
-    let operands = times(sum / OF_FIRST % BASE, a) + times(sum / OF_SECOND % BASE, b) + times(sum / OF_THIRD % BASE, c);
-    let call = times(sum / ARGUMENTS_OF_SECOND % BASE, b) + times(sum / ARGUMENTS_OF_THIRD % BASE, c);
+    let operands = times(sum / OF_FIRST % BASE, a)
+        + times(sum / OF_SECOND % BASE, b)
+        + times(sum / OF_THIRD % BASE, c);
+    let call = times(sum / ARGUMENTS_OF_SECOND % BASE, b)
+        + times(sum / ARGUMENTS_OF_THIRD % BASE, c);
     sum % BASE + operands + arguments(call)
 }
 
@@ -110,12 +113,9 @@ fn operands_below(code: &[u8], at: usize, x: usize, y: usize, d: usize, limits: 
     requires { ⌜ Limits (now limits) ⌝ }
     requires { ⌜ Numbered d ⌝ }
     requires { ⌜ (1 ≤ x) × (x ≤ 2) × (1 ≤ y) × (y ≤ 2) × (at ≤ length (now code) + 2) ⌝ }
-    ensures
-    {
-        λ r. ⌜
-            r ≡ belowBy (now (limits .entry)) d (operand x (now (code .entry)) at) (operand y (now (code .entry)) (at + x))
-            (byte (now (code .entry)) (at + x + y)) ⌝
-    }
+    ensures { λ r. ⌜
+        r ≡ belowBy (now (limits .entry)) d (operand x (now (code .entry)) at) (operand y (now (code .entry)) (at + x))
+        (byte (now (code .entry)) (at + x + y)) ⌝ }
 {
     let a = operand_at(code, at, x);
     if !is_below(a, d / FIRST % BASE, limits) {

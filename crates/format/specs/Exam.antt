@@ -55,8 +55,8 @@ unfoldable pub rangeBelow : Record → Range → Bool
 rangeBelow r x = leb (x .upto) (x .from) || leb (x .upto) (r .nregs)
 
 -- "Refusal 17 widens so"
-unfoldable pub fits : Record → ℕ → Bool
-fits r o = operandsBelow r o && rangeBelow r (registersAt (r .code) o)
+unfoldable pub bounded : Record → ℕ → Bool
+bounded r o = operandsBelow r o && rangeBelow r (registersAt (r .code) o)
 
 -- 18: an instruction begins where the run can go on; n: one begins at the next offset; t: one begins at the target
 abbrev pub leads : Flow → Bool → Bool → Bool
@@ -184,7 +184,7 @@ exam16 c = first (refuse 16 (ltb 0 (length c))) (firstAt (at16 c) c 0 0)
 
 -- "17 before 18 at each instruction in turn"
 abbrev pub at1718 : Record → ℕ → ℕ
-at1718 r o = first (refuse 17 (fits r o)) (refuse 18 (follows (r .code) o))
+at1718 r o = first (refuse 17 (bounded r o)) (refuse 18 (follows (r .code) o))
 
 unfoldable pub exam1718 : Record → ℕ
 exam1718 r = firstAt (at1718 r) (r .code) 0 0

@@ -92,10 +92,13 @@ formFrom (has p f ∷ l) o = cond (eqb (number p) (number o)) f (formFrom l o)
 unfoldable pub form : OpCode → Form
 form o = formFrom comments o
 
--- the registers that a comment names, at the instruction at o of the instruction bytes c
+-- the registers that a comment names by these operands
+abbrev pub registersOf : OpCode → List ℕ → Range
+registersOf o vs = named (form o) (getD vs 0 0) (getD vs 1 0) (getD vs 2 0)
+
+-- and at the instruction at o of the instruction bytes c
 abbrev pub registersAt : List ℕ → ℕ → Range
-registersAt c o =
-    named (form (name (rowAt c o))) (getD (operandsAt c o) 0 0) (getD (operandsAt c o) 1 0) (getD (operandsAt c o) 2 0)
+registersAt c o = registersOf (name (rowAt c o)) (operandsAt c o)
 
 -- The instruction at o names the register x: an operand with a register role does, which "always counts, also where b or c is 0", or its comment
 pub data Names (c : List ℕ) (o x : ℕ) : Type 0 where

@@ -12,6 +12,7 @@ pub mod Counts
 pub mod Refusals
 pub mod Header
 pub mod Constants
+pub mod Registers
 pub mod Newer
 pub mod Prefixes
 pub mod Unprefixed

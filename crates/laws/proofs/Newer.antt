@@ -2,7 +2,7 @@
 -- Assumes nothing.
 use Prim.Native.Nat.{ℕ, _<_}
 use native.Mathlib.Omega.{arith}
-use mathlib.Core.Path.{_≡_, refl}
+use mathlib.Core.Path.{_≡_, refl, _∙_}
 use mathlib.Core.Logic.{_⊎_, ⊎-elim}
 use mathlib.Core.Bool.{Bool, true, false, _&&_, cond}
 use mathlib.Core.List.{List, [], _∷_, map}
@@ -12,12 +12,14 @@ use lib.ListN.{length, getD}
 use Rattle.format.specs.Insn.{Role, reg, sym as symbol, child, plain, OpCode, GETIDX0, MATCHERR, SSEND0, SEND0, BLKCALL, ADDILV, SUBILV, METHOD, TDEF, SDEF}
 use Rattle.format.specs.Insn.{number, Kind, BB, BBB, Row, name, kind, roles, table, row, operands, opcode, rowAt, operandsAt, next}
 use Rattle.format.specs.Rules.{among, secondRole01, rolesWith}
+use Rattle.format.specs.Registers.{own, comments, form}
 use Rattle.format.specs.Tree.{childOf}
 use Rattle.format.specs.Pattern.{Record, Pattern, recAt, rlens}
-use Rattle.format.specs.Exam.{Below, below, allBelow, operandsBelow}
+use Rattle.format.specs.Exam.{Below, below, allBelow, operandsBelow, bounded}
 use Rattle.format.specs.Run.{enter, Frame, frame, codeOf, childOperand, into, move, oneStep}
 use Rattle.format.specs.Claim.{FrameHolds}
 use Rattle.format.proofs.Table.{both}
+use Rattle.laws.proofs.Registers.{as-before}
 
 abbrev rolesOf : OpCode → List Role
 rolesOf o = roles (row (number o))
@@ -67,16 +69,16 @@ first-below r [] vs t = tt
 first-below r (x ∷ xs) [] t = tt
 first-below r (x ∷ xs) (v ∷ vs) t = and-i (below r x v) _ (search both) (plains-below r xs vs)
 
-pub passed-before : (r : Record) (o : ℕ) → T (operandsBelow r o) → T (allBelow r (earlier (rowAt (r .code) o)) (operandsAt (r .code) o))
-unfolding operandsBelow
+pub passed-before : (r : Record) (o : ℕ) → T (bounded r o) → T (allBelow r (earlier (rowAt (r .code) o)) (operandsAt (r .code) o))
+unfolding bounded operandsBelow
 passed-before r o t = go (newer (name (rowAt (r .code) o)))
   where
     xs : List Role
     xs = roles (rowAt (r .code) o)
 
     go : (b : Bool) → T (allBelow r (cond b (firstAlone xs) xs) (operandsAt (r .code) o))
-    go true = first-below r xs (operandsAt (r .code) o) t
-    go false = t
+    go true = first-below r xs (operandsAt (r .code) o) (search both)
+    go false = search both
 
 and-true : (a : Bool) → (a && true) ≡ a
 and-true true = refl
@@ -92,21 +94,23 @@ IsDef c o = (opcode c o ≡ number TDEF) ⊎ (opcode c o ≡ number SDEF)
 record Shaped (c : List ℕ) (o : ℕ) (k : Kind) (xs : List Role) : Type 0 where
   kind-is : kind (rowAt c o) ≡ k
   roles-are : roles (rowAt c o) ≡ xs
+  form-is : form (name (rowAt c o)) ≡ own
 
-shape : (c : List ℕ) (o b : ℕ) {k : Kind} {xs : List Role} → opcode c o ≡ b → kind (row b) ≡ k → roles (row b) ≡ xs → Shaped c o k xs
-shape c o b e q p = record { kind-is = rw e q; roles-are = rw e p }
+shape : (c : List ℕ) (o b : ℕ) {k : Kind} {xs : List Role} → opcode c o ≡ b → kind (row b) ≡ k → roles (row b) ≡ xs → form (name (row b)) ≡ own
+    → Shaped c o k xs
+shape c o b e q p f = record { kind-is = rw e q; roles-are = rw e p; form-is = rw e f }
 
 getidx0-shape : (c : List ℕ) (o : ℕ) → opcode c o ≡ number GETIDX0 → Shaped c o BB (reg ∷ reg ∷ [])
-unfolding row table
-getidx0-shape c o e = shape c o (number GETIDX0) e refl refl
+unfolding row table comments form
+getidx0-shape c o e = shape c o (number GETIDX0) e refl refl refl
 
 send0-shape : (c : List ℕ) (o : ℕ) → IsSend0 c o → Shaped c o BB (reg ∷ symbol ∷ [])
-unfolding row table
-send0-shape c o i = ⊎-elim (λ e. shape c o (number SSEND0) e refl refl) (λ e. shape c o (number SEND0) e refl refl) i
+unfolding row table comments form
+send0-shape c o i = ⊎-elim (λ e. shape c o (number SSEND0) e refl refl refl) (λ e. shape c o (number SEND0) e refl refl refl) i
 
 def-shape : (c : List ℕ) (o : ℕ) → IsDef c o → Shaped c o BBB (reg ∷ symbol ∷ child ∷ [])
-unfolding row table
-def-shape c o i = ⊎-elim (λ e. shape c o (number TDEF) e refl refl) (λ e. shape c o (number SDEF) e refl refl) i
+unfolding row table comments form
+def-shape c o i = ⊎-elim (λ e. shape c o (number TDEF) e refl refl refl) (λ e. shape c o (number SDEF) e refl refl refl) i
 
 -- the operands of the instruction at o, by their places among them
 abbrev pub arg : List ℕ → ℕ → ℕ → ℕ
@@ -115,31 +119,31 @@ arg c o i = getD (operandsAt c o) i 0
 -- "Refusal 17 .. cover these operands and children": what it tests there
 module _ (r : Record) (o : ℕ) where
   pub getidx0-tests : opcode (r .code) o ≡ number GETIDX0
-      → operandsBelow r o ≡ (ltb (arg (r .code) o 0) (r .nregs) && ltb (arg (r .code) o 1) (r .nregs))
+      → bounded r o ≡ (ltb (arg (r .code) o 0) (r .nregs) && ltb (arg (r .code) o 1) (r .nregs))
   unfolding operandsBelow allBelow below operands
   getidx0-tests e =
       let s = getidx0-shape (r .code) o e in
       let k = s .kind-is in
       let q = s .roles-are in
-      rw (k, q, and-true)
+      as-before r o (s .form-is) ∙ rw (k, q, and-true)
 
-  pub send0-tests : IsSend0 (r .code) o → operandsBelow r o ≡ (ltb (arg (r .code) o 0) (r .nregs) && ltb (arg (r .code) o 1) (r .nsyms))
+  pub send0-tests : IsSend0 (r .code) o → bounded r o ≡ (ltb (arg (r .code) o 0) (r .nregs) && ltb (arg (r .code) o 1) (r .nsyms))
   unfolding operandsBelow allBelow below operands
   send0-tests i =
       let s = send0-shape (r .code) o i in
       let k = s .kind-is in
       let q = s .roles-are in
-      rw (k, q, and-true)
+      as-before r o (s .form-is) ∙ rw (k, q, and-true)
 
   pub def-tests : IsDef (r .code) o
-      → operandsBelow r o
+      → bounded r o
       ≡ (ltb (arg (r .code) o 0) (r .nregs) && (ltb (arg (r .code) o 1) (r .nsyms) && ltb (arg (r .code) o 2) (r .rlen)))
   unfolding operandsBelow allBelow below operands
   def-tests i =
       let s = def-shape (r .code) o i in
       let k = s .kind-is in
       let q = s .roles-are in
-      rw (k, q, and-true)
+      as-before r o (s .form-is) ∙ rw (k, q, and-true)
 
   -- "TDEF and SDEF can be entered like METHOD": the child is the third operand, where it is METHOD's second
   pub enter-def : IsDef (r .code) o → move r o enter ≡ into (arg (r .code) o 2) (next (r .code) o)

@@ -18,11 +18,12 @@ use Rattle.format.specs.Packed.{packedFrom, packed, packedEntry}
 use Rattle.format.specs.Debug.{fileHead, mapEntry, mapLines, filesFrom, debugRecord, debugContent, debugSection}
 use Rattle.format.specs.File.{endSection, sectionAt, sections, fileRefusal, fileReading}
 use Rattle.format.specs.Load.{Nine, fits, ending, loading, load}
+use Rattle.format.specs.Registers.{comments, form}
 use Rattle.format.specs.Line.{halve, lineAt, rising}
 use Rattle.format.specs.Lookup.{recordIn, rowIn, bytesIn, Constant, text, int, constantAt, constantOf, pool}
 use Rattle.format.specs.Tree.{layout, whole, span, childOf}
 use Rattle.format.specs.Pattern.{Record, patternOf, reach, lands}
-use Rattle.format.specs.Exam.{FilePasses, stray, readable, below, allBelow, operandsBelow, follows, firstAt, firstOf, exam16, exam1718, exam19, exam20}
+use Rattle.format.specs.Exam.{FilePasses, stray, readable, below, allBelow, operandsBelow, rangeBelow, bounded, follows, firstAt, firstOf, exam16, exam1718, exam19, exam20}
 use Rattle.format.specs.Exam.{examineRecord, examineAll, examinePattern, passing, examining, examine}
 use Rattle.format.specs.Run.{Choice, frame, go-on, enter, caught, leave, childOperand, move, oneStep, runFrom, run, choicesFrom, choices, finished, stands}
 use Rattle.format.specs.Run.{standing, laidFrames, frameTable, following, follow}
@@ -134,7 +135,7 @@ record Table : Type 0 where
   ext2-high : examinePattern (oval (116 ∷ 2 ∷ 0 ∷ 1 ∷ 44 ∷ [])) ≡ 17
   ext2-low-byte-first : examinePattern (oval (116 ∷ 2 ∷ 0 ∷ 43 ∷ 1 ∷ [])) ≡ 17
   ext3-last : examinePattern (oval (117 ∷ 2 ∷ 1 ∷ 43 ∷ 1 ∷ 43 ∷ [])) ≡ 0
-  ext3-third-a-byte : examinePattern (oval (117 ∷ 47 ∷ 1 ∷ 43 ∷ 1 ∷ 43 ∷ 7 ∷ [])) ≡ 0
+  ext3-third-a-byte : examinePattern (oval (117 ∷ 47 ∷ 1 ∷ 36 ∷ 1 ∷ 43 ∷ 7 ∷ [])) ≡ 0
   ext2-keeps-bs : examinePattern (oval (116 ∷ 39 ∷ 0 ∷ 0 ∷ 0 ∷ [])) ≡ 0
   ext2-keeps-s : examinePattern (oval (116 ∷ 38 ∷ 0 ∷ 0 ∷ [])) ≡ 0
   ext1-keeps-z : examinePattern (oval (115 ∷ 0 ∷ [])) ≡ 0
@@ -153,6 +154,39 @@ record Table : Type 0 where
   ext2-enters : run (family (116 ∷ 98 ∷ 0 ∷ 0 ∷ 1 ∷ [])) (enter ∷ []) ≡ frame 2 0 ∷ frame 0 5 ∷ []
   ext3-third-enters : run (family (117 ∷ 107 ∷ 0 ∷ 0 ∷ 0 ∷ 0 ∷ 1 ∷ [])) (enter ∷ []) ≡ frame 2 0 ∷ frame 0 7 ∷ []
   ext-fetches-alone : fetch (115 ∷ 17 ∷ 1 ∷ 43 ∷ []) ≡ ok (insn Z [])
+  add-last : examinePattern (family (69 ∷ 1 ∷ [])) ≡ 0
+  add-high : examinePattern (family (69 ∷ 2 ∷ [])) ≡ 17
+  setidx-last : examinePattern (family (37 ∷ 0 ∷ [])) ≡ 0
+  setidx-high : examinePattern (family (37 ∷ 1 ∷ [])) ≡ 17
+  send-none : examinePattern (family (50 ∷ 2 ∷ 0 ∷ 0 ∷ [])) ≡ 0
+  send-two : examinePattern (family (50 ∷ 0 ∷ 0 ∷ 2 ∷ [])) ≡ 0
+  send-two-high : examinePattern (family (50 ∷ 1 ∷ 0 ∷ 2 ∷ [])) ≡ 17
+  send-pair : examinePattern (family (50 ∷ 0 ∷ 0 ∷ 16 ∷ [])) ≡ 0
+  send-pair-high : examinePattern (family (50 ∷ 1 ∷ 0 ∷ 16 ∷ [])) ≡ 17
+  send-fifteen : examinePattern (family (50 ∷ 1 ∷ 0 ∷ 15 ∷ [])) ≡ 0
+  send-both-fifteen : examinePattern (family (50 ∷ 0 ∷ 0 ∷ 255 ∷ [])) ≡ 0
+  send-both-high : examinePattern (family (50 ∷ 1 ∷ 0 ∷ 255 ∷ [])) ≡ 17
+  sendb-last : examinePattern (family (52 ∷ 1 ∷ 0 ∷ 0 ∷ [])) ≡ 0
+  sendb-high : examinePattern (family (52 ∷ 2 ∷ 0 ∷ 0 ∷ [])) ≡ 17
+  super-last : examinePattern (family (55 ∷ 1 ∷ 0 ∷ [])) ≡ 0
+  super-high : examinePattern (family (55 ∷ 2 ∷ 0 ∷ [])) ≡ 17
+  array-last : examinePattern (family (82 ∷ 1 ∷ 2 ∷ [])) ≡ 0
+  array-high : examinePattern (family (82 ∷ 2 ∷ 2 ∷ [])) ≡ 17
+  array-none : examinePattern (family (82 ∷ 2 ∷ 0 ∷ [])) ≡ 0
+  array2-last : examinePattern (family (83 ∷ 0 ∷ 1 ∷ 2 ∷ [])) ≡ 0
+  array2-high : examinePattern (family (83 ∷ 0 ∷ 2 ∷ 2 ∷ [])) ≡ 17
+  array2-none-high : examinePattern (family (83 ∷ 0 ∷ 3 ∷ 0 ∷ [])) ≡ 17
+  arypush-last : examinePattern (family (85 ∷ 1 ∷ 1 ∷ [])) ≡ 0
+  arypush-high : examinePattern (family (85 ∷ 1 ∷ 2 ∷ [])) ≡ 17
+  apost-last : examinePattern (family (89 ∷ 1 ∷ 9 ∷ 1 ∷ [])) ≡ 0
+  apost-high : examinePattern (family (89 ∷ 1 ∷ 9 ∷ 2 ∷ [])) ≡ 17
+  hash-none : examinePattern (family (94 ∷ 0 ∷ 0 ∷ [])) ≡ 0
+  hash-last : examinePattern (family (94 ∷ 1 ∷ 1 ∷ [])) ≡ 0
+  hash-high : examinePattern (family (94 ∷ 2 ∷ 1 ∷ [])) ≡ 17
+  hashadd-last : examinePattern (family (95 ∷ 0 ∷ 1 ∷ [])) ≡ 0
+  hashadd-high : examinePattern (family (95 ∷ 1 ∷ 1 ∷ [])) ≡ 17
+  super-wide : examinePattern (oval (117 ∷ 55 ∷ 1 ∷ 42 ∷ 1 ∷ 0 ∷ [])) ≡ 0
+  hashadd-wide : examinePattern (oval (117 ∷ 95 ∷ 0 ∷ 0 ∷ 255 ∷ 255 ∷ [])) ≡ 17
   packed-two : packed (129 ∷ 1 ∷ []) 0 ≡ ok (step 129 2)
   packed-most : packed (255 ∷ 255 ∷ 255 ∷ 255 ∷ 15 ∷ []) 0 ≡ ok (step 4294967295 5)
   packed-dropped : packed (255 ∷ 255 ∷ 255 ∷ 255 ∷ 127 ∷ []) 0 ≡ ok (step 4294967295 5)
@@ -186,7 +220,7 @@ unfolding table row operands opcode rest lastOf jump target fetchAs fetch packed
     poolEntry counted headAt bodyAt recordAt recordsFrom irepSection walk noZero plainText nameEntry recordNames lvarSection fileHead mapEntry
     mapLines filesFrom debugRecord debugContent debugSection packedEntry endSection sectionAt sections fileRefusal fileReading fits ending loading load sized
     endAlone lent alone family oval fileD lentPool constantD zeroInside recordIn rowIn bytesIn constantAt constantOf pool
-    rising layout span childOf reach lands stray readable below allBelow operandsBelow follows firstAt firstOf exam16 exam1718 exam19 exam20 examineRecord
+    rising layout span childOf reach lands stray readable below allBelow operandsBelow rangeBelow bounded comments form follows firstAt firstOf exam16 exam1718 exam19 exam20 examineRecord
     examineAll examinePattern passing examining examine childOperand move oneStep runFrom choicesFrom standing laidFrames frameTable following follow
 samples = record {
   a-loads = refl;
@@ -255,6 +289,39 @@ samples = record {
   ext2-enters = refl;
   ext3-third-enters = refl;
   ext-fetches-alone = refl;
+  add-last = refl;
+  add-high = refl;
+  setidx-last = refl;
+  setidx-high = refl;
+  send-none = refl;
+  send-two = refl;
+  send-two-high = refl;
+  send-pair = refl;
+  send-pair-high = refl;
+  send-fifteen = refl;
+  send-both-fifteen = refl;
+  send-both-high = refl;
+  sendb-last = refl;
+  sendb-high = refl;
+  super-last = refl;
+  super-high = refl;
+  array-last = refl;
+  array-high = refl;
+  array-none = refl;
+  array2-last = refl;
+  array2-high = refl;
+  array2-none-high = refl;
+  arypush-last = refl;
+  arypush-high = refl;
+  apost-last = refl;
+  apost-high = refl;
+  hash-none = refl;
+  hash-last = refl;
+  hash-high = refl;
+  hashadd-last = refl;
+  hashadd-high = refl;
+  super-wide = refl;
+  hashadd-wide = refl;
   packed-two = refl;
   packed-most = refl;
   packed-dropped = refl;

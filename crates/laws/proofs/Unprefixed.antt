@@ -11,12 +11,13 @@ use lib.Dec.{T, leb, ltb, eqb}
 use lib.ListN.{length, getD}
 use Rattle.format.specs.Bytes.{ok, refused, byte, refuse, first}
 use Rattle.format.specs.File.{Content}
-use Rattle.format.specs.Insn.{fields, width, kind, roles, flow, row, size, known, prefix, signed16, lastOf, operands, opcode, operandsAt, rest}
+use Rattle.format.specs.Insn.{fields, width, name, kind, roles, flow, row, size, known, prefix, signed16, lastOf, operands, opcode, operandsAt, rest}
 use Rattle.format.specs.Insn.{jump, target}
+use Rattle.format.specs.Registers.{registersOf}
 use Rattle.format.specs.Line.{rising}
 use Rattle.format.specs.Tree.{whole}
 use Rattle.format.specs.Pattern.{Record, Pattern, patternOf, recAt, blank, rlens, reach, begins, lands}
-use Rattle.format.specs.Exam.{stray, readable, allBelow, operandsBelow, leads, follows, firstAt, firstOf, at16, at1718}
+use Rattle.format.specs.Exam.{stray, readable, allBelow, operandsBelow, rangeBelow, bounded, leads, follows, firstAt, firstOf, at16, at1718}
 use Rattle.format.specs.Exam.{exam16, exam1718, exam19, exam20, examineRecord, examineAll, examinePattern, passing}
 use Rattle.format.proofs.Answers.{first-zero, refuse-zero}
 use Rattle.format.proofs.Prefix.{no-widening}
@@ -59,7 +60,8 @@ test16 c o = refuse 16 (readable01 c o)
 
 abbrev tests01 : Record → ℕ → ℕ
 tests01 r o =
-    first (refuse 17 (allBelow r (roles (row (byte (r .code) o))) (operandsAt01 (r .code) o)))
+    first (refuse 17 (allBelow r (roles (row (byte (r .code) o))) (operandsAt01 (r .code) o)
+    && rangeBelow r (registersOf (name (row (byte (r .code) o))) (operandsAt01 (r .code) o))))
     (refuse 18 (leads (flow (row (byte (r .code) o))) (begins01 (r .code) (next01 (r .code) o)) (lands01 (r .code) o)))
 
 abbrev examineRecord01 : Record → ℕ
@@ -134,7 +136,7 @@ module _ (c : List ℕ) (n : NoPrefix c) where
 
 module _ (r : Record) (n : NoPrefix (r .code)) where
   tests-same : (o : ℕ) → prefix (byte (r .code) o) ≡ false → at1718 r o ≡ tests01 r o
-  unfolding operandsBelow follows
+  unfolding bounded operandsBelow follows
   tests-same o p =
       let c = r .code in
       let w = opcode-alone c o p in

@@ -8,10 +8,11 @@ use mathlib.Core.List.{List, [], _∷_, _++_}
 use lib.ListN.{replicate}
 use Rattle.format.specs.Bytes.{ok, refused}
 use Rattle.format.specs.Insn.{table, row, operands, opcode, rest}
+use Rattle.format.specs.Registers.{comments, form}
 use Rattle.format.specs.Line.{rowsFrom, halve, lineAt, rising}
 use Rattle.format.specs.Tree.{layout, span, childOf}
 use Rattle.format.specs.Pattern.{Pattern, reach}
-use Rattle.format.specs.Exam.{stray, readable, below, allBelow, operandsBelow, follows, firstAt, firstOf, exam16, exam1718, exam19, exam20, examineRecord, examineAll, examinePattern}
+use Rattle.format.specs.Exam.{stray, readable, below, allBelow, operandsBelow, rangeBelow, bounded, follows, firstAt, firstOf, exam16, exam1718, exam19, exam20, examineRecord, examineAll, examinePattern}
 use Rattle.format.specs.Run.{frame, childOperand, move, oneStep, runFrom, choicesFrom, finished, stands, standing, laidFrames, frameTable}
 use Rattle.exam.specs.View.{patternAt, RowFits, Ready}
 use Rattle.run.specs.Follow.{out, followOut}
@@ -36,7 +37,7 @@ abbrev lines : List ℕ
 lines = 0 ∷ 7 ∷ []
 
 pub ready : Ready bytes records handlers lines 2
-unfolding table row rowsFrom opcode operands rest reach layout stray readable operandsBelow follows below allBelow firstAt firstOf
+unfolding table row rowsFrom opcode operands rest reach layout stray readable operandsBelow rangeBelow bounded comments form follows below allBelow firstAt firstOf
     exam16 exam1718 exam19 exam20 rising examineRecord examineAll examinePattern
 ready = record { fits = record { few = omega arith; held = omega arith; small = omega arith; each = one }; passes = refl }
   where

@@ -12,7 +12,7 @@ use Rattle.format.specs.Line.{rising}
 use Rattle.format.specs.Tree.{whole}
 use Rattle.format.specs.Pattern.{Record, Pattern, ilen, clen, recAt, blank, begins, rlens}
 use Rattle.format.specs.Bytes.{refuse}
-use Rattle.format.specs.Exam.{stray, readable, fits, follows, firstAt, at16, at1718, exam16, exam1718, exam19, exam20, examineRecord, examineAll, examinePattern}
+use Rattle.format.specs.Exam.{stray, readable, bounded, follows, firstAt, at16, at1718, exam16, exam1718, exam19, exam20, examineRecord, examineAll, examinePattern}
 use Rattle.format.proofs.Answers.{first-zero, refuse-zero}
 use Rattle.runs.proofs.Tests.{firstAt-zero, firstOf-zero}
 
@@ -20,7 +20,7 @@ pub record Good (r : Record) : Type 0 where
   pub filled : 0 < ilen r
   pub paired : (o : ℕ) → T (begins (r .code) o) → T (not (stray (r .code) o))
   pub reads : (o : ℕ) → T (begins (r .code) o) → T (readable (r .code) o)
-  pub fit : (o : ℕ) → T (begins (r .code) o) → T (fits r o)
+  pub fit : (o : ℕ) → T (begins (r .code) o) → T (bounded r o)
   pub go : (o : ℕ) → T (begins (r .code) o) → T (follows (r .code) o)
   pub caught : (h : ℕ) → h < clen r → T (begins (r .code) (getD (r .handlers) h 0))
   pub rise : T (rising (r .lines))
@@ -55,8 +55,8 @@ good r e =
       filled = ltb→lt 0 (ilen r) (refuse-zero 15 (ltb 0 (ilen r)) (d .0));
       paired = λ o t. j o t .0;
       reads = λ o t. j o t .1;
-      fit = λ o t. refuse-zero 16 (fits r o) (first-zero (refuse 17 (fits r o)) _ (i o t) .0);
-      go = λ o t. refuse-zero 17 (follows (r .code) o) (first-zero (refuse 17 (fits r o)) (refuse 18 (follows (r .code) o)) (i o t) .1);
+      fit = λ o t. refuse-zero 16 (bounded r o) (first-zero (refuse 17 (bounded r o)) _ (i o t) .0);
+      go = λ o t. refuse-zero 17 (follows (r .code) o) (first-zero (refuse 17 (bounded r o)) (refuse 18 (follows (r .code) o)) (i o t) .1);
       caught = λ h g. refuse-zero 18 (begins (r .code) (getD (r .handlers) h 0)) (firstOf-zero (λ (t : ℕ). refuse 19 (begins (r .code) t)) (r .handlers) (c .0) h g);
       rise = refuse-zero 19 (rising (r .lines)) (c .1);
     }

@@ -14,7 +14,7 @@ use Rattle.format.specs.Insn.{Flow, on, ends, jumps, may, flow, rowAt, next}
 use Rattle.format.specs.Line.{entry, rising}
 use Rattle.format.specs.Tree.{Whole, whole}
 use Rattle.format.specs.Pattern.{Record, Pattern, ilen, recAt, blank, begins, lands, rlens}
-use Rattle.format.specs.Exam.{leads, hasNext, hasTarget, stray, readable, fits, follows, Bad16, Bad17, Bad18, Bad19, Bad20, Bad25, Some}
+use Rattle.format.specs.Exam.{leads, hasNext, hasTarget, stray, readable, bounded, follows, Bad16, Bad17, Bad18, Bad19, Bad20, Bad25, Some}
 use Rattle.format.specs.Bytes.{refuse, first}
 use Rattle.format.specs.Exam.{Meets, meets15, meets16, meets17, meets18, meets19, meets20, meets25, Passes, firstAt, at16, at1718, exam16, exam1718}
 use Rattle.format.specs.Exam.{exam19, exam20, examineRecord, examineAll, examinePattern}
@@ -128,12 +128,12 @@ module _ (r : Record) (n : ℕ) where
   unfolding exam1718
   hit1718 e = at (firstAt-hit (at1718 r) (r .code) 0 0 n e)
     where
-      go : (o : ℕ) → T (begins (r .code) o) → (refuse 17 (fits r o) ≡ suc n) ⊎ (refuse 18 (follows (r .code) o) ≡ suc n) → Bad r (suc n)
-      go o t (inl e) = let h = refuse-hit 17 n (fits r o) e in same (h .0) (bad17 (record { at = o; starts = t; high = some-high r o (h .1) }))
+      go : (o : ℕ) → T (begins (r .code) o) → (refuse 17 (bounded r o) ≡ suc n) ⊎ (refuse 18 (follows (r .code) o) ≡ suc n) → Bad r (suc n)
+      go o t (inl e) = let h = refuse-hit 17 n (bounded r o) e in same (h .0) (bad17 (record { at = o; starts = t; high = some-high r o (h .1) }))
       go o t (inr e) = let h = refuse-hit 18 n (follows (r .code) o) e in same (h .0) (bad18 (record { at = o; starts = t; lost = lost-of (r .code) o (h .1) }))
 
       at : Hit (at1718 r) (r .code) 0 0 (suc n) → Bad r (suc n)
-      at i = go (i .at) (i .starts) (first-hit (refuse 17 (fits r (i .at))) (refuse 18 (follows (r .code) (i .at))) n (rw zero-add at (i .gives)))
+      at i = go (i .at) (i .starts) (first-hit (refuse 17 (bounded r (i .at))) (refuse 18 (follows (r .code) (i .at))) n (rw zero-add at (i .gives)))
 
   hit19 : exam19 r ≡ suc n → Bad r (suc n)
   unfolding exam19

@@ -10,7 +10,7 @@ use lib.ListN.{length, getD}
 use Rattle.format.specs.Insn.{Role, reg, plain, roles, rowAt, operandsAt}
 use Rattle.format.specs.Registers.{Range, registersAt, Names, by-role, by-comment}
 use Rattle.format.specs.Pattern.{Record}
-use Rattle.format.specs.Exam.{Below, operandsBelow, rangeBelow, fits, HighOperand, HighRegister}
+use Rattle.format.specs.Exam.{Below, operandsBelow, rangeBelow, bounded, HighOperand, HighRegister}
 use Rattle.format.proofs.Table.{both}
 use Rattle.runs.proofs.Roles.{all-below, args-fit, some-above}
 
@@ -38,32 +38,32 @@ module _ (r : Record) (s : Range) where
           (omega arith, omega arith, omega arith)
 
 module _ (r : Record) (o : ℕ) where
-  pub fits-operands : T (fits r o) → T (operandsBelow r o)
-  unfolding fits
-  fits-operands t = search both
+  pub bounded-operands : T (bounded r o) → T (operandsBelow r o)
+  unfolding bounded
+  bounded-operands t = search both
 
-  pub fits-range : T (fits r o) → T (rangeBelow r (registersAt (r .code) o))
-  unfolding fits
-  fits-range t = search both
+  pub bounded-range : T (bounded r o) → T (rangeBelow r (registersAt (r .code) o))
+  unfolding bounded
+  bounded-range t = search both
 
-  module _ (t : T (fits r o)) where
+  module _ (t : T (bounded r o)) where
     pub below-of : (i : ℕ) → i < length (roles (rowAt (r .code) o)) → Below r (getD (roles (rowAt (r .code) o)) i plain) (getD (operandsAt (r .code) o) i 0)
     unfolding operandsBelow
-    below-of = all-below r (roles (rowAt (r .code) o)) (operandsAt (r .code) o) (fits-operands t) (args-fit (r .code) o)
+    below-of = all-below r (roles (rowAt (r .code) o)) (operandsAt (r .code) o) (bounded-operands t) (args-fit (r .code) o)
 
     pub named-below : (x : ℕ) → Names (r .code) o x → x < r .nregs
     named-below x (by-role i given e v) = subst (λ (y : ℕ). y < r .nregs) v (as-register (getD (roles (rowAt (r .code) o)) i plain) e (below-of i given))
       where
         as-register : {y : ℕ} (a : Role) → a ≡ reg → Below r a y → y < r .nregs
         as-register {y} a e b = subst (λ (q : Role). Below r q y) e b
-    named-below x (by-comment l h) = in-range r (registersAt (r .code) o) (fits-range t) x l h
+    named-below x (by-comment l h) = in-range r (registersAt (r .code) o) (bounded-range t) x l h
 
-  pub none-high : T (fits r o) → HighOperand r o ⊎ HighRegister r o → ⊥
+  pub none-high : T (bounded r o) → HighOperand r o ⊎ HighRegister r o → ⊥
   none-high t (inl h) = h .above (below-of t (h .i) (h .given))
   none-high t (inr h) = h .above (named-below t (h .register) (h .named))
 
-  pub some-high : T (not (fits r o)) → HighOperand r o ⊎ HighRegister r o
-  unfolding fits operandsBelow
+  pub some-high : T (not (bounded r o)) → HighOperand r o ⊎ HighRegister r o
+  unfolding bounded operandsBelow
   some-high t = go (operandsBelow r o) refl t
     where
       go : (b : Bool) → operandsBelow r o ≡ b → T (not (b && rangeBelow r (registersAt (r .code) o))) → HighOperand r o ⊎ HighRegister r o

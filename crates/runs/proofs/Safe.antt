@@ -18,7 +18,7 @@ use Rattle.runs.specs.Stack.{Stack}
 use Rattle.format.proofs.Table.{both}
 use Rattle.runs.proofs.Tree.{kid-inside}
 use Rattle.runs.proofs.Table.{child-on}
-use Rattle.runs.proofs.Registers.{fits-operands}
+use Rattle.runs.proofs.Registers.{bounded-operands}
 use Rattle.runs.proofs.Exact.{Good, GoodFile}
 
 -- an operand that numbers a child is below rlen
@@ -72,7 +72,7 @@ module _ (r : Record) (G : Good r) (o : ℕ) (t : T (begins (r .code) o)) where
   unfolding operandsBelow
   entered-safe none e = goes-safe (flow (rowAt (r .code) o)) led
   entered-safe (some k) e = (
-    child-below r (roles (rowAt (r .code) o)) (operandsAt (r .code) o) k (fits-operands r o (G .fit o t)) e,
+    child-below r (roles (rowAt (r .code) o)) (operandsAt (r .code) o) k (bounded-operands r o (G .fit o t)) e,
     rw (child-on (opcode (r .code) o) (operandsAt (r .code) o) k e) at led,
   )
 

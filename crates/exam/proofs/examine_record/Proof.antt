@@ -8,8 +8,7 @@ use Rattle.exam.proofs.examine_record.Tie as tie
 
 examine-part-requires : tie.Need-examine-part-requires
 examine-part-requires c κs =
-    let triple = c .before .before .before .before .before .before .before .before .before .before in
-    (
+    let triple = c .before .before .before .before .before .before .before .before .before .before in (
       search needs,
       (record { seven = refl; plain-limit = refl; pair-limit = triple .before .less .ensures; triple-limit = triple .less2 .ensures }, (search needs, search needs)),
     )

@@ -5,7 +5,7 @@ use Prim.Native.Nat.{ℕ}
 use mathlib.Core.Path.{ap, _∙_}
 use lib.Dec.{ltb}
 use lib.ListN.{length}
-use Rattle.flags.proofs.Roles.{numbered, fits-alone, flag-told}
+use Rattle.flags.proofs.Roles.{numbered, bounded-alone, flag-told}
 use borrow.Author.Needs.{needs}
 use Rattle.flags.proofs.flag_at.Statement.{statement}
 use Rattle.flags.proofs.flag_at.Tie as tie
@@ -22,7 +22,7 @@ returns c =
     let a = start .args in
     let alone = start .pre .1 in
     c .flag-of .ensures .0
-    ∙ flag-told (alone .looked) (a .limits .now) (fits-alone (alone .looked) (start .pre .0) (alone .no-prefix) (below .operands-below .ensures))
+    ∙ flag-told (alone .looked) (a .limits .now) (bounded-alone (alone .looked) (start .pre .0) (alone .no-prefix) (below .operands-below .ensures))
     (ap (λ (x : ℕ). ltb x (length (a .code .now))) (alone .next-is))
 
 pub flag-at-spec : {M : Type 1} → statement M

@@ -10,7 +10,7 @@ use Rattle.format.specs.Bytes.{byte}
 use Rattle.format.specs.Insn.{prefix}
 use Rattle.opcode.proofs.Numbers.{no-size}
 use Rattle.format.proofs.Prefix.{first-one-or-two, second-one-or-two}
-use Rattle.flags.proofs.Roles.{numbered, fits-behind, flag-told}
+use Rattle.flags.proofs.Roles.{numbered, bounded-behind, flag-told}
 use Rattle.flags.proofs.Tested.{lead-none, lead-some, tested-stray, tested-unreadable, tested-whole, cut, whole, not-stray, unknown-alone}
 use Rattle.flags.proofs.Tested.{stray-last, stray-again, not-again, unknown-behind, not-stray-behind, looked-behind, known-behind, next-behind}
 use borrow.Author.Needs.{needs}
@@ -116,7 +116,7 @@ returns-6 c =
     let s = if3 .if3 .left in
     let n = next-behind code (a .i) h p e s (size .size-behind .ensures .0) in
     let k = looked-behind code (a .i) h p e s in
-    let f = fits-behind k (start .pre .0) p (first .first-width .ensures) (second .second-width .ensures) (below .operands-below .ensures) in
+    let f = bounded-behind k (start .pre .0) p (first .first-width .ensures) (second .second-width .ensures) (below .operands-below .ensures) in
     tested-whole (a .limits .now) code (a .i) (not-stray-behind code (a .i) h p e s)
     (whole code (a .i) (known-behind code (a .i) h p e s) (omega (arith, n, if5 .if5 .left)))
     (omega (arith, n))

@@ -1,0 +1,91 @@
+-- Request j): the sentences on registers, what 17 tests against its words, and an opcode without such a comment.
+-- Assumes nothing.
+use Prim.Native.Nat.{ℕ, _+_, _*_, _/_, _%_, _≤_, _<_}
+use native.Mathlib.Omega.{arith}
+use mathlib.Core.Path.{_≡_, refl, sym, subst}
+use mathlib.Core.Logic.{_⊎_, inl, inr, _↔_}
+use mathlib.Core.Bool.{Bool, true, false, _&&_, not, cond}
+use mathlib.Core.List.{List}
+use lib.Dec.{T, T-not, eqb}
+use lib.ListN.{length, getD}
+use Rattle.format.specs.Insn.{reg, plain, name, roles, rowAt, operandsAt}
+use Rattle.format.specs.Registers.{Form, own, pair, triple, send, sendb, super, array, array2, push, post, hash, hashadd, Range, range, counted, arguments, named}
+use Rattle.format.specs.Registers.{form, Names}
+use Rattle.format.specs.Pattern.{Record}
+use Rattle.format.specs.Exam.{Below, operandsBelow, rangeBelow, bounded, HighOperand, HighRegister}
+use Rattle.runs.proofs.Registers.{below-of, named-below, some-high}
+
+-- "SUPER counts like SSENDB with its b for c"
+pub super-like-ssendb : (a b c d : ℕ) → named super a b c ≡ named sendb a d b
+super-like-ssendb a b c d = refl
+
+-- "n is the low four bits and k the next four; n or 2k counts as one register where n or k is 15", each by itself
+pub arguments-of : (n k : ℕ) → n < 16 → k < 16 → arguments (n + 16 * k) ≡ cond (eqb n 15) 1 n + cond (eqb k 15) 1 (2 * k)
+arguments-of n k h g =
+    let low : (n + 16 * k) % 16 ≡ n = omega arith in
+    let half : (n + 16 * k) / 16 ≡ k = omega arith in
+    let next : (n + 16 * k) / 16 % 16 ≡ k = rw half (omega arith) in
+    let once : 1 * n ≡ n = omega arith in
+    rw (low, next, once)
+
+-- so the bits above do not count
+pub bits-above : (v : ℕ) → arguments v ≡ arguments (v % 256)
+bits-above v =
+    let low : v % 256 % 16 ≡ v % 16 = omega arith in
+    let half : v / 16 ≡ 16 * (v / 256) + v % 256 / 16 = omega arith in
+    let next : v % 256 / 16 % 16 ≡ v / 16 % 16 = rw half (omega arith) in
+    rw (low, next)
+
+-- "a range that ends below its start names none"
+pub none-named : (x y z : ℕ) → y ≤ x → x ≤ z → z < y → ⊥
+none-named x y z h l g = omega arith
+
+-- the registers of operands below 65536 do not go beyond 65535 + 2 * 65535
+counted-few : (m n : ℕ) → m * n ≤ 30 → counted m n ≤ 30
+counted-few m n h = go (eqb n 15)
+  where
+    go : (b : Bool) → cond b 1 (m * n) ≤ 30
+    go true = omega arith
+    go false = h
+
+arguments-few : (v : ℕ) → arguments v ≤ 60
+arguments-few v = omega (arith, counted-few 1 (v % 16) (omega arith), counted-few 2 (v / 16 % 16) (omega arith))
+
+pub last-small : (f : Form) (a b c : ℕ) → a < 65536 → b < 65536 → c < 65536 → named f a b c .upto ≤ 65535 + 2 * 65535 + 1
+last-small own a b c x y z = omega arith
+last-small pair a b c x y z = omega arith
+last-small triple a b c x y z = omega arith
+last-small send a b c x y z = omega (arith, arguments-few c)
+last-small sendb a b c x y z = omega (arith, arguments-few c)
+last-small super a b c x y z = omega (arith, arguments-few b)
+last-small array a b c x y z = omega arith
+last-small array2 a b c x y z = omega arith
+last-small push a b c x y z = omega arith
+last-small post a b c x y z = omega arith
+last-small hash a b c x y z = omega arith
+last-small hashadd a b c x y z = omega arith
+
+module _ (r : Record) (o : ℕ) where
+  -- "Refusal 17 widens so": it is not met at an instruction exactly when each operand is below its count and each register named below nregs
+  pub told : T (bounded r o)
+      ↔ (((i : ℕ) → i < length (roles (rowAt (r .code) o)) → Below r (getD (roles (rowAt (r .code) o)) i plain) (getD (operandsAt (r .code) o) i 0))
+      × ((x : ℕ) → Names (r .code) o x → x < r .nregs))
+  told = (λ t. (below-of r o t, named-below r o t), λ p. go p (bounded r o) refl)
+    where
+      go : ((i : ℕ) → i < length (roles (rowAt (r .code) o)) → Below r (getD (roles (rowAt (r .code) o)) i plain) (getD (operandsAt (r .code) o) i 0))
+          × ((x : ℕ) → Names (r .code) o x → x < r .nregs) → (b : Bool) → bounded r o ≡ b → T (bounded r o)
+      go p true e = subst T (sym e) tt
+      go p false e = absurd (none (some-high r o (subst (λ (b : Bool). T (not b)) (sym e) tt)))
+        where
+          none : HighOperand r o ⊎ HighRegister r o → ⊥
+          none (inl h) = h .above (p .0 (h .i) (h .given))
+          none (inr h) = h .above (p .1 (h .register) (h .named))
+
+  -- an opcode whose comment names no further register has the earlier 17
+  pub as-before : form (name (rowAt (r .code) o)) ≡ own → bounded r o ≡ operandsBelow r o
+  unfolding bounded rangeBelow
+  as-before e = rw e (go (operandsBelow r o))
+    where
+      go : (a : Bool) → (a && true) ≡ a
+      go true = refl
+      go false = refl
