@@ -38,7 +38,7 @@ fn a_prefix_and_its_opcode_are_one_step() {
         "  4  EXT2 LOADL      R1, 1256\n",
         "  9  EXT3 MOVE       R255, R256 rods\n",
         " 15  EXT2 LOADSYM    R1, :s299\n",
-        " 20  EXT3 SEND       R256 rods, :s257, 1 argument\n",
+        " 20  EXT3 SEND       R256 rods, :s257, 1 argument  touches R256..R257\n",
         " 27  EXT2 BLOCK      R1, record 257\n",
         " 32  EXT3 METHOD     R256 rods, record 300\n",
         "╭─┬─▶    38  EXT1 JMPNOT     R256 rods, to 48\n",
@@ -222,7 +222,7 @@ fn with(offset: usize, operand: u16) -> Vec<u8> {
     file
 }
 
-/// The wide operands with a role: an instruction's offset and name, the operand in words, where it stands, what it names.
+/// The wide operands with a role: an instruction's offset and name, the operand in words, where it stands, what it names. SEND touches one register more.
 const NAMING: [(u32, &str, &str, u32, &str); 11] = [
     (0, "EXT1 LOADNIL", "first", 2, "register"),
     (4, "EXT2 LOADL", "second", 7, "constant"),
@@ -240,7 +240,8 @@ const NAMING: [(u32, &str, &str, u32, &str); 11] = [
 #[test]
 fn a_wide_operand_is_below_its_number() {
     for (offset, name, ordinal, at, thing) in NAMING {
-        for named in [0, 255, 256, WIDE_NUMBER - 1] {
+        let behind = u16::from(name == "EXT3 SEND" && thing == "register");
+        for named in [0, 255, 256, WIDE_NUMBER - 1 - behind] {
             assert!(examine(&with(at as usize, named)).is_ok(), "{name}");
         }
         for named in [WIDE_NUMBER, 511, 65_535] {

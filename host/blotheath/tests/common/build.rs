@@ -84,6 +84,13 @@ pub fn one(code: &[u8], constants: &[&[u8]], symbols: &[&[u8]]) -> Vec<u8> {
     file(&[irep(&record(0, code, constants, symbols))])
 }
 
+/// A file of one record of this code, with so many registers.
+pub fn with_registers(registers: u16, code: &[u8], symbols: &[&[u8]]) -> Vec<u8> {
+    let mut record = record(0, code, &[], symbols);
+    record[NREGS].copy_from_slice(&registers.to_be_bytes());
+    file(&[irep(&record)])
+}
+
 /// A file of one record of this code, with handlers that go to these targets.
 pub fn with_handlers(code: &[u8], targets: &[u32]) -> Vec<u8> {
     let mut content = head(0, 1, 8, 0, code.len() as u32);
@@ -114,12 +121,23 @@ pub const LOADL: u8 = 2;
 pub const LOADSYM: u8 = 16;
 pub const LOADNIL: u8 = 17;
 pub const GETIDX0: u8 = 36;
+pub const SETIDX: u8 = 37;
 pub const JMP: u8 = 38;
 pub const JMPNOT: u8 = 40;
+pub const SSEND: u8 = 47;
 pub const SSEND0: u8 = 48;
+pub const SSENDB: u8 = 49;
 pub const SEND: u8 = 50;
 pub const SEND0: u8 = 51;
+pub const SENDB: u8 = 52;
+pub const SUPER: u8 = 55;
 pub const RETURN: u8 = 61;
+pub const ADD: u8 = 69;
+pub const ARRAY: u8 = 82;
+pub const ARRAY2: u8 = 83;
+pub const ARYPUSH: u8 = 85;
+pub const HASH: u8 = 94;
+pub const HASHADD: u8 = 95;
 pub const LAMBDA: u8 = 97;
 pub const BLOCK: u8 = 98;
 pub const METHOD: u8 = 99;
