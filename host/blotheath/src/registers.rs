@@ -111,8 +111,8 @@ mod tests {
     }
 
     fn shown(name: &str, operands: [u32; 3]) -> String {
-        let registers = step(opcode(name), operands).registers();
-        let registers: Vec<String> = registers.map(|one| one.to_string()).collect();
+        let step = step(opcode(name), operands);
+        let registers: Vec<String> = step.registers().map(|one| one.to_string()).collect();
         registers.join(", ")
     }
 
@@ -202,7 +202,8 @@ mod tests {
             }
             for [a, b] in operands.map(|a| operands.map(|b| [a, b])).concat() {
                 for c in operands.into_iter().filter(|c| *c < 256) {
-                    let registers = step(byte, [a, b, c]).registers();
+                    let step = step(byte, [a, b, c]);
+                    let registers = step.registers();
                     let registers = registers.map(|one| one.first.into()..=one.last.into());
                     let of_model = joined(model::registers(known, [a, b, c]));
                     let name = known.name;

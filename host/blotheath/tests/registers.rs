@@ -6,8 +6,8 @@ use blotheath::{
     Opcode, PREFIXES, Place, Refusal, Role, Step, Steps, examine, follow, load, locate, roles,
 };
 use common::build::{
-    self, ADD, ARRAY, ARRAY2, ARYPUSH, EXT1, EXT2, EXT3, FIRST_CODE, HASH, HASHADD, JMP, LOADNIL,
-    MOVE, NOP, SEND, SENDB, SETIDX, SSEND, SSENDB, STOP, SUPER,
+    self, ADD, ARRAY, ARRAY2, ARYPUSH, EXT1, EXT2, EXT3, FIRST_CODE, HASH, HASHADD, JMP, NOP, SEND,
+    SENDB, SETIDX, SSEND, SSENDB, STOP, SUPER,
 };
 use common::json::{Value, parse};
 use common::{Folder, Numbers, files, run};
@@ -100,6 +100,14 @@ fn examination_takes_as_few_registers_as_the_library_names() {
     }
 }
 
+#[test]
+fn every_register_that_there_can_be() {
+    let file = build::all_registers();
+    let pattern = examine(&file).unwrap();
+    let step = pattern.steps(0).unwrap().next().unwrap().unwrap();
+    assert_eq!(needed(&step), u32::from(u16::MAX));
+}
+
 /// Every number of arguments and keys, and bits above them where the operand is wide.
 #[test]
 fn calls_with_any_arguments() {
@@ -156,7 +164,7 @@ fn refused(file: &[u8]) -> (u32, Place) {
     (refusal.number(), place.unwrap())
 }
 
-/// Steps with what they touch: the offset, the name, the operands, the registers that these do not name, and all registers.
+/// Steps of the file that touches registers: the offset, the name, the operands, the registers that these do not name, and all registers.
 type Shown = (
     u32,
     &'static str,
@@ -183,37 +191,10 @@ const SHOWN: [Shown; 14] = [
     (42, "STOP", "", "", &[]),
 ];
 
-/// The code of these steps.
-#[rustfmt::skip]
-const CODE: [u8; 43] = [
-    LOADNIL, 1,
-    MOVE, 2, 1,
-    ADD, 1,
-    SETIDX, 3,
-    SEND, 2, 0, 0,
-    SSEND, 2, 0, 2,
-    SENDB, 2, 0, 0x11,
-    SUPER, 4, 15,
-    ARRAY, 2, 1,
-    ARRAY2, 1, 4, 3,
-    HASH, 2, 0,
-    EXT2, HASHADD, 2, 0, 2,
-    JMP, 0, 0,
-    STOP,
-];
-
-/// A file of that code, whose first local has a name.
-fn touching() -> Vec<u8> {
-    let mut record = build::record(0, &CODE, &[], &[b"round"]);
-    record[build::NLOCALS].copy_from_slice(&2u16.to_be_bytes());
-    let names = [0, 0, 0, 1, 0, 4, b'r', b'o', b'd', b's', 0, 0];
-    build::file(&[build::irep(&record), build::section(b"LVAR", &names)])
-}
-
-/// That file in a folder of its own.
+/// The file of these steps in a folder of its own.
 fn touching_in(name: &str) -> (Folder, String) {
     let folder = Folder::new(name);
-    let path = folder.file("touching.mrb", &touching());
+    let path = folder.file("touching.mrb", &build::touching());
     (folder, path)
 }
 

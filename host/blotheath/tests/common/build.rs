@@ -232,6 +232,13 @@ pub fn long_constant() -> Vec<u8> {
     one(&code, &[&text], &[])
 }
 
+/// A file of one record where every step touches all of 65,535 registers.
+pub fn all_registers() -> Vec<u8> {
+    let mut code = [EXT3, HASHADD, 0, 0, 0x7f, 0xff].repeat(10_000);
+    code.push(STOP);
+    with_registers(u16::MAX, &code, &[])
+}
+
 /// A record of 1,024 children, or a chain of 1,024 records.
 pub fn tree(wide: bool) -> Vec<u8> {
     let mut content = Vec::new();
@@ -305,6 +312,34 @@ pub fn newer() -> Vec<u8> {
     names.extend([0, 0, 0, 1]);
     let records = [main, parent, leaf.clone(), leaf].concat();
     file(&[irep(&records), section(b"LVAR", &names)])
+}
+
+/// Steps that touch registers by their operands, in a record of one symbol, and some that touch no more than their operands name.
+#[rustfmt::skip]
+pub const TOUCHING: [u8; 43] = [
+    LOADNIL, 1,
+    MOVE, 2, 1,
+    ADD, 1,
+    SETIDX, 3,
+    SEND, 2, 0, 0,
+    SSEND, 2, 0, 2,
+    SENDB, 2, 0, 0x11,
+    SUPER, 4, 15,
+    ARRAY, 2, 1,
+    ARRAY2, 1, 4, 3,
+    HASH, 2, 0,
+    EXT2, HASHADD, 2, 0, 2,
+    JMP, 0, 0,
+    STOP,
+];
+
+/// A file of these steps, whose register 1 holds a named local.
+pub fn touching() -> Vec<u8> {
+    let mut main = record(0, &TOUCHING, &[], &[b"round"]);
+    main[NLOCALS].copy_from_slice(&2u16.to_be_bytes());
+    let mut names = vec![0, 0, 0, 1, 0, 4];
+    names.extend(b"rods\0\0");
+    file(&[irep(&main), section(b"LVAR", &names)])
 }
 
 /// How many registers, constants, symbols and children the record with wide operands has.
