@@ -93,15 +93,11 @@ fn arguments(operand: u32) -> u32 {
 #[cfg(test)]
 mod tests {
     use super::*;
+    use crate::opcode::{byte_of, is_prefix};
     use crate::step::Steps;
     use std::ops::RangeInclusive;
 
     const EXT3: u8 = 117;
-
-    fn opcode(name: &str) -> u8 {
-        let opcode = model::OPCODES.iter().position(|known| known.name == name);
-        opcode.unwrap() as u8
-    }
 
     /// An opcode behind EXT3 with these operands.
     fn step(opcode: u8, operands: [u32; 3]) -> Step {
@@ -111,7 +107,7 @@ mod tests {
     }
 
     fn shown(name: &str, operands: [u32; 3]) -> String {
-        let step = step(opcode(name), operands);
+        let step = step(byte_of(name), operands);
         let registers: Vec<String> = step.registers().map(|one| one.to_string()).collect();
         registers.join(", ")
     }
@@ -197,7 +193,7 @@ mod tests {
     fn the_model_names_the_same() {
         let operands = [0, 1, 2, 3, 15, 16, 240, 255, 256, 65_535];
         for (byte, known) in (0..).zip(&model::OPCODES) {
-            if crate::opcode::is_prefix(byte) {
+            if is_prefix(byte) {
                 continue;
             }
             for [a, b] in operands.map(|a| operands.map(|b| [a, b])).concat() {

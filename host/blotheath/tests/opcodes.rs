@@ -1,4 +1,4 @@
-//! The page of opcodes, held against the model and, but for names, against the archive's fetch, examination and run; its registers against the library's.
+//! The page of opcodes, held against the model, the library's registers and, but for names, the archive's fetch, examination and run.
 
 mod common;
 
@@ -89,20 +89,10 @@ impl Row {
             "b" => operands[1].into(),
             "2b" => 2 * i64::from(operands[1]),
             "c" => operands[2].into(),
-            "n" => {
-                if n == 15 {
-                    1
-                } else {
-                    n.into()
-                }
-            }
-            "2k" => {
-                if k == 15 {
-                    1
-                } else {
-                    2 * i64::from(k)
-                }
-            }
+            "n" if n == 15 => 1,
+            "n" => n.into(),
+            "2k" if k == 15 => 1,
+            "2k" => 2 * i64::from(k),
             number => number.parse().unwrap(),
         };
         parts.split('+').map(value).sum()

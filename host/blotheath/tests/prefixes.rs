@@ -2,15 +2,12 @@
 
 mod common;
 
-use blotheath::{
-    Choice, Constant, Frame, Pattern, Place, Standing, Step, bytes_of, examine, follow, load,
-    locate,
-};
+use blotheath::{Choice, Constant, Frame, Pattern, Standing, Step, bytes_of, examine, follow};
 use common::build::{
     self, EXT1, EXT2, EXT3, FIRST_CODE, JMP, LOADNIL, NOP, STOP, WIDE, WIDE_NUMBER,
 };
 use common::json::{Value, parse};
-use common::{Folder, compiled, run, run_with};
+use common::{Folder, compiled, refused, run, run_with};
 use std::fs;
 
 /// The file with wide operands, in a folder of its own.
@@ -18,14 +15,6 @@ fn wide(name: &str) -> (Folder, String) {
     let folder = Folder::new(name);
     let path = folder.file("wide.mrb", &build::wide());
     (folder, path)
-}
-
-/// The refusal of a file that loads, and its place.
-fn refused(file: &[u8]) -> (u32, Place) {
-    let refusal = examine(file).unwrap_err();
-    assert_eq!(follow(file, &[]), Err(refusal));
-    let place = locate(file, load(file).ok().as_ref(), refusal);
-    (refusal.number(), place.unwrap())
 }
 
 #[test]
@@ -222,7 +211,7 @@ fn with(offset: usize, operand: u16) -> Vec<u8> {
     file
 }
 
-/// The wide operands with a role: an instruction's offset and name, the operand in words, where it stands, what it names. SEND touches one register more.
+/// The wide operands with a role: an instruction's offset and name, the operand in words, where it stands, what it names.
 const NAMING: [(u32, &str, &str, u32, &str); 11] = [
     (0, "EXT1 LOADNIL", "first", 2, "register"),
     (4, "EXT2 LOADL", "second", 7, "constant"),
@@ -240,6 +229,7 @@ const NAMING: [(u32, &str, &str, u32, &str); 11] = [
 #[test]
 fn a_wide_operand_is_below_its_number() {
     for (offset, name, ordinal, at, thing) in NAMING {
+        // SEND has an argument in the register behind its own.
         let behind = u16::from(name == "EXT3 SEND" && thing == "register");
         for named in [0, 255, 256, WIDE_NUMBER - 1 - behind] {
             assert!(examine(&with(at as usize, named)).is_ok(), "{name}");

@@ -2,15 +2,13 @@
 
 mod common;
 
-use blotheath::{
-    Opcode, PREFIXES, Place, Refusal, Role, Step, Steps, examine, follow, load, locate, roles,
-};
+use blotheath::{Opcode, PREFIXES, Refusal, Role, Step, Steps, examine, roles};
 use common::build::{
     self, ADD, ARRAY, ARRAY2, ARYPUSH, EXT1, EXT2, EXT3, FIRST_CODE, HASH, HASHADD, JMP, NOP, SEND,
     SENDB, SETIDX, SSEND, SSENDB, STOP, SUPER,
 };
 use common::json::{Value, parse};
-use common::{Folder, Numbers, files, run};
+use common::{Folder, Numbers, files, refused, run, sample_bytes};
 use std::fs;
 
 /// The first step of some bytes.
@@ -156,14 +154,6 @@ fn real_files_have_their_registers() {
     assert!(tried >= 6, "{tried}");
 }
 
-/// The refusal of a file that loads, and its place.
-fn refused(file: &[u8]) -> (u32, Place) {
-    let refusal = examine(file).unwrap_err();
-    assert_eq!(follow(file, &[]), Err(refusal));
-    let place = locate(file, load(file).ok().as_ref(), refusal);
-    (refusal.number(), place.unwrap())
-}
-
 /// Steps of the file that touches registers: the offset, the name, the operands, the registers that these do not name, and all registers.
 type Shown = (
     u32,
@@ -247,7 +237,7 @@ fn the_page_shows_the_registers_behind_the_operands() {
     for (row, (offset, name, _, touched, _)) in rows.iter().zip(SHOWN) {
         let (row, _) = row.split_once("</td></tr>").unwrap();
         assert!(row.starts_with(&format!("{offset}</td>")), "{row}");
-        let behind = format!("<span class=\"touched\">{touched}</span>");
+        let behind = format!(" <span class=\"touched\">{touched}</span>");
         assert_eq!(row.ends_with(&behind), !touched.is_empty(), "{name}: {row}");
         assert_eq!(
             row.contains("touched"),
@@ -338,6 +328,22 @@ fn a_register_that_is_not_there_is_told_with_its_number() {
         assert_eq!((place.record, place.offset), (Some(0), Some(1)));
         assert_eq!(place.byte, Some(FIRST_CODE as u32 + 1 + byte), "{what}");
         assert_eq!(place.what, format!("{what}, and the record has 8"));
+    }
+}
+
+/// The call of line 23 in the sample's first record, which has eight registers, with more arguments.
+#[test]
+fn a_missing_register_is_told_with_its_line() {
+    for (arguments, registers) in [(4, "register 8"), (0x72, "registers 8 to 20")] {
+        let mut file = sample_bytes();
+        let call = FIRST_CODE + 31;
+        assert_eq!(file[call..call + 4], [SEND, 4, 2, 2]);
+        file[call + 3] = arguments;
+        let (number, place) = refused(&file);
+        assert_eq!((number, place.record), (17, Some(0)));
+        assert_eq!((place.offset, place.line), (Some(31), Some(23)));
+        let what = format!("SEND touches {registers}, counted from 0, and the record has 8");
+        assert_eq!(place.what, what);
     }
 }
 

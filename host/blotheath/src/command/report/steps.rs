@@ -272,7 +272,7 @@ impl<'v> View<'v> {
             self.operand(out, meaning)?;
         }
         if let Some(touched) = touched(step) {
-            write!(out, "<span class=\"touched\">{touched}</span>")?;
+            write!(out, " <span class=\"touched\">{touched}</span>")?;
         }
         if mark == Some(Mark::Step(step.offset)) {
             write!(out, "<span class=\"refusal\">{}</span>", self.refused())?;
