@@ -34,7 +34,8 @@
        the file has records
    15  the records are not one whole tree by their numbers of children
    16  in a record, an opcode above 118 or a cut instruction, behind a prefix or not, or no instruction at all
-   17  an operand is not below the registers, constants, symbols or children that its record has
+   17  an operand is not below the registers, constants, symbols or children that its record has, or a register that an instruction touches is
+       not below its record's number of registers
    18  a jump, or the next step, goes to where no instruction begins
    19  a handler's target is where no instruction begins
    20  the positions of a record's line map fall
@@ -160,7 +161,16 @@ BlotheathLoaded blotheath_load_records(const uint8_t *file, size_t file_len,
    operands, of the kinds that stand with blotheath_fetch, or a prefix opcode and these behind it; it begins at its prefix. 115 widens the first
    operand of B, BB, BBB, BS and BSS to two bytes, high byte first, 116 the second of BB and BBB, 117 both, each where the kind has it. What a prefix
    does not widen stays as it is, the operands of S and W among them. A jump counts from the end of its instruction. The opcode behind a prefix is
-   no place where an instruction begins: a jump there is 18, a handler's target 19. */
+   no place where an instruction begins: a jump there is 18, a handler's target 19.
+
+   Registers. An instruction touches the register of every operand that names one, and these, by its operands a, b and c, wide where a prefix
+   widens them; a range that ends below its start has none. n is the low four bits of c, in SUPER of b, k the next four; n or 2k is one register
+   where n or k is 15.
+   a+1              SETMCNST, GETIDX, ADD, SUB, MUL, DIV, EQ, LT, LE, GT, GE, ARYCAT, STRCAT, HASHCAT, RANGE_INC, RANGE_EXC, CLASS, DEF
+   a+1, a+2         SETIDX
+   a+1 to a+n+2k    SSEND, SEND; to a+n+2k+1: SSENDB, SENDB, SUPER
+   a+1 to a+b-1     ARRAY; to a+b: ARYPUSH; to a+c: APOST; to a+2b-1: HASH; to a+2b: HASHADD
+   b+1 to b+c-1     ARRAY2 */
 BlotheathLoaded blotheath_examine(const uint8_t *file, size_t file_len,
                                   uint32_t *records, size_t records_len,
                                   uint32_t *handlers, size_t handlers_len,

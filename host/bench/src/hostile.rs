@@ -112,6 +112,18 @@ pub fn files() -> Vec<(&'static str, Vec<u8>)> {
             shared_code(&[NOP, NOP, JMP, EXT1_NOP, EXT1_NOP, JMP.behind(EXT1, 0)]),
         ),
         (
+            "the same: size 2, one to three registers touched, in random order",
+            shared_registers(&SHORT_FORMS, &[None]),
+        ),
+        (
+            "the same: eleven forms of touched registers, any operands, in random order",
+            shared_registers(&FORMS, &[None]),
+        ),
+        (
+            "the same: these forms, half of them behind one of three prefixes, in random order",
+            shared_registers(&FORMS, &HALF_PREFIXED),
+        ),
+        (
             "1,024 records that share a constant's text",
             shared_constants(&long_constant()),
         ),
@@ -236,6 +248,85 @@ const PREFIXED: [Kind; 9] = [
     MOVE.behind(EXT3, 2),
 ];
 
+/// An instruction that touches registers by so many operands; the second of a call names a symbol.
+#[derive(Clone, Copy)]
+struct Form {
+    opcode: u8,
+    operands: usize,
+    calls: bool,
+}
+
+const fn form(opcode: u8, operands: usize) -> Form {
+    Form {
+        opcode,
+        operands,
+        calls: false,
+    }
+}
+
+const fn call(opcode: u8) -> Form {
+    Form {
+        calls: true,
+        ..form(opcode, 3)
+    }
+}
+
+/// LOADNIL, ADD and SETIDX.
+const SHORT_FORMS: [Form; 3] = [form(17, 1), form(69, 1), form(37, 1)];
+
+/// ADD, SETIDX, SEND, SENDB, SUPER, ARRAY, ARRAY2, ARYPUSH, APOST, HASH and HASHADD.
+const FORMS: [Form; 11] = [
+    form(69, 1),
+    form(37, 1),
+    call(50),
+    call(52),
+    form(55, 2),
+    form(82, 2),
+    form(83, 3),
+    form(85, 2),
+    form(89, 3),
+    form(94, 2),
+    form(95, 2),
+];
+
+/// No prefix as often as one of the three.
+const HALF_PREFIXED: [Option<u8>; 6] = [None, None, None, Some(EXT1), Some(EXT2), Some(EXT3)];
+
+/// The high byte of a wide operand is below this, so that a form touches none but the registers below 2,304.
+const MOST_HIGH: usize = 3;
+
+impl Form {
+    /// The bytes of the instruction with random operands.
+    fn instruction(self, prefix: Option<u8>, random: &mut Random) -> Vec<u8> {
+        let mut code: Vec<u8> = prefix.into_iter().chain([self.opcode]).collect();
+        for place in 0..self.operands {
+            let names_symbol = self.calls && place == 1;
+            let (high, low) = if names_symbol {
+                (1, 1)
+            } else {
+                (MOST_HIGH, 256)
+            };
+            if widens(prefix, place) {
+                code.push(random.below(high) as u8);
+            }
+            code.push(random.below(low) as u8);
+        }
+        code
+    }
+}
+
+/// Whether a prefix widens the operand at a place.
+fn widens(prefix: Option<u8>, place: usize) -> bool {
+    match place {
+        0 => matches!(prefix, Some(EXT1 | EXT3)),
+        1 => matches!(prefix, Some(EXT2 | EXT3)),
+        _ => false,
+    }
+}
+
+/// Where random numbers begin.
+const SEED: Random = Random(88_172_645_463_325_252);
+
 /// Numbers in an order that no predictor learns, the same in every run.
 struct Random(u64);
 
@@ -257,7 +348,7 @@ enum Order {
 
 /// At most so many bytes of code: the kinds in this order, operands 0, jumps to any instruction, and STOP at the end.
 fn code(kinds: &[Kind], order: Order, most: usize) -> Vec<u8> {
-    let mut random = Random(88_172_645_463_325_252);
+    let mut random = SEED;
     let mut code = Vec::new();
     let mut starts = Vec::new();
     let mut ends = Vec::new();
@@ -291,12 +382,33 @@ fn code(kinds: &[Kind], order: Order, most: usize) -> Vec<u8> {
     code
 }
 
+/// At most so many bytes of code: the forms in random order, each behind one of these or no prefix, any operands, and STOP at the end.
+fn code_of_forms(forms: &[Form], prefixes: &[Option<u8>], most: usize) -> Vec<u8> {
+    let mut random = SEED;
+    let mut code = Vec::new();
+    loop {
+        let form = forms[random.below(forms.len())];
+        let prefix = prefixes[random.below(prefixes.len())];
+        let instruction = form.instruction(prefix, &mut random);
+        if code.len() + instruction.len() >= most {
+            break;
+        }
+        code.extend(instruction);
+    }
+    code.push(118);
+    code
+}
+
 /// The bytes from one record that shares code to the next: a header and a NOP.
 const STRIDE: usize = 17;
 
 /// The handlers of a record that shares code, their number also the opcode LOADI32; all their bytes are 0, and so their targets.
 const HANDLERS: u16 = 15;
 const HANDLER_BYTES: usize = 13;
+
+/// The registers of a record that shares code, their number also the opcode LOADI, or LOADI16 of a high byte.
+const FEW_REGISTERS: u16 = 3;
+const MANY_REGISTERS: u16 = 14 << 8;
 
 /// No entries, as constants or as symbols.
 const NONE: [u8; 2] = [0; 2];
@@ -312,27 +424,36 @@ const OWN: [u8; 6] = [0, 118, 0, 0, 0, 0];
 
 /// Records that share code of these kinds in random order, in which operands name registers alone.
 fn shared_code(kinds: &[Kind]) -> Vec<u8> {
-    chain(kinds, Order::Random, &NONE, &[])
+    let code = |most| code(kinds, Order::Random, most);
+    chain(code, FEW_REGISTERS, &NONE, &[])
 }
 
 /// The same with the kinds in turn.
 fn shared_in_turn(kinds: &[Kind]) -> Vec<u8> {
-    chain(kinds, Order::InTurn, &NONE, &[])
+    let code = |most| code(kinds, Order::InTurn, most);
+    chain(code, FEW_REGISTERS, &NONE, &[])
 }
 
 /// Records that share code, in which operands name a symbol and a child too: all but the last, which has no child to name.
 fn shared_definitions(kinds: &[Kind]) -> Vec<u8> {
-    chain(kinds, Order::Random, &ONE_SYMBOL, &OWN)
+    let code = |most| code(kinds, Order::Random, most);
+    chain(code, FEW_REGISTERS, &ONE_SYMBOL, &OWN)
 }
 
-/// A chain of records that passes, with these symbols. All have their code's end in common, but for a last one that has its own, and the code of
-/// each begins with the headers of those behind it, read as instructions: NOP, LOADNIL, LOADI with the number of children, and LOADI32 with the
-/// length.
-fn chain(kinds: &[Kind], order: Order, symbols: &[u8], own: &[u8]) -> Vec<u8> {
+/// Records that share code of these forms, which touch registers by their operands.
+fn shared_registers(forms: &[Form], prefixes: &[Option<u8>]) -> Vec<u8> {
+    let code = |most| code_of_forms(forms, prefixes, most);
+    chain(code, MANY_REGISTERS, &ONE_SYMBOL, &[])
+}
+
+/// A chain of records that passes, with so many registers and these symbols. All have their code's end in common, but for a last one that has its
+/// own, and the code of each begins with the headers of those behind it, read as instructions: NOP, LOADNIL, LOADI or LOADI16 with the number of
+/// children, and LOADI32 with the length.
+fn chain(code: impl Fn(usize) -> Vec<u8>, registers: u16, symbols: &[u8], own: &[u8]) -> Vec<u8> {
     let handlers = [0; HANDLERS as usize * HANDLER_BYTES];
     let behind = [&handlers[..], &NONE, symbols].concat();
     let heads = RECORDS * STRIDE + own.len();
-    let code = code(kinds, order, 65_536 - 32 - heads - behind.len());
+    let code = code(65_536 - 32 - heads - behind.len());
     let end = heads + code.len();
     let mut content = Vec::new();
     for number in 0..RECORDS {
@@ -342,7 +463,8 @@ fn chain(kinds: &[Kind], order: Order, symbols: &[u8], own: &[u8]) -> Vec<u8> {
             true => (0, OWN_LENGTH),
             false => (HANDLERS, end - content.len() - 16),
         };
-        content.extend(head(size, 0, 3, u16::from(!is_last), handlers, length));
+        let children = u16::from(!is_last);
+        content.extend(head(size, 0, registers, children, handlers, length));
         content.push(0);
     }
     content.extend(own);

@@ -18,6 +18,7 @@ mod opcode;
 mod opcodes;
 mod pattern;
 mod refusal;
+mod registers;
 mod run;
 mod step;
 pub mod tables;
@@ -34,6 +35,7 @@ pub use pattern::{
     line_at, load,
 };
 pub use refusal::Refusal;
+pub use registers::Registers;
 pub use run::{Before, Run};
 pub use step::{BadStep, Kind, Step, Steps};
 pub use tree::{Node, Tree};

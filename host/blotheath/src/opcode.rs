@@ -57,6 +57,13 @@ pub fn name(opcode: u8) -> Option<&'static str> {
     NAMES.get(usize::from(opcode)).copied()
 }
 
+/// The opcode of a name.
+#[cfg(test)]
+pub fn byte_of(name: &str) -> u8 {
+    let opcode = NAMES.iter().position(|known| *known == name);
+    opcode.unwrap() as u8
+}
+
 /// The roles of an opcode's operands.
 pub fn roles(opcode: u8) -> [Role; 3] {
     [first_role(opcode), second_role(opcode), third_role(opcode)]

@@ -3,7 +3,7 @@
 use crate::opcode::{Flow, PREFIXES, Role, flow, is_prefix, name};
 use crate::step::{Kind, Step};
 
-/// An opcode, with the sizes of its instruction.
+/// An opcode, with the sizes of its instruction and what its operands name.
 #[derive(Debug, Clone, PartialEq, Eq)]
 pub struct Opcode {
     pub byte: u8,
@@ -15,6 +15,8 @@ pub struct Opcode {
     pub behind: [Option<u32>; 3],
     /// The roles of the operands that the kind has.
     pub roles: Vec<Role>,
+    /// The registers that the instruction touches, in the letters of its operands; n and k are four bits each of the last.
+    pub registers: Vec<&'static str>,
     /// The place among the operands of a jump's distance.
     pub distance: Option<usize>,
     /// Where the instruction leads by itself; none for a prefix, which is no instruction by itself.
@@ -38,6 +40,7 @@ impl Opcode {
             size: alone.next,
             behind: PREFIXES.map(size_behind),
             roles: alone.with_roles().map(|(_, role)| role).collect(),
+            registers: alone.register_words().collect(),
             distance: alone.distance(),
             flow: (!is_prefix(byte)).then(|| flow(byte)),
         })

@@ -37,7 +37,7 @@ const REFUSALS: &[(u32, By, &str)] = &[
     (14, Loading, "the file needs more than 1,024 records, or more rows than the tables hold"),
     (15, Examination, "the records do not form one whole tree"),
     (16, Examination, "the instructions of a record cannot be read: an unknown opcode, a cut instruction, or none"),
-    (17, Examination, "an operand names a register, constant, symbol or child that does not exist"),
+    (17, Examination, "an operand names a register, constant, symbol or child that does not exist, or a step touches a register that does not exist"),
     (18, Examination, "a step leads to a place where no instruction begins"),
     (19, Examination, "a handler leads to a place where no instruction begins"),
     (20, Examination, "a line map falls back to an earlier position"),

@@ -319,6 +319,7 @@ impl Iterator for Steps<'_> {
 #[cfg(test)]
 mod tests {
     use super::*;
+    use crate::opcode::byte_of;
 
     const EXT1: u8 = 115;
     const EXT2: u8 = 116;
@@ -342,13 +343,8 @@ mod tests {
         Steps::new(code).last().unwrap().unwrap_err()
     }
 
-    fn opcode(name: &str) -> u8 {
-        let opcode = model::OPCODES.iter().position(|known| known.name == name);
-        opcode.unwrap() as u8
-    }
-
     fn by_name(prefix: Option<u8>, name: &str) -> Step {
-        step(prefix, opcode(name)).unwrap()
+        step(prefix, byte_of(name)).unwrap()
     }
 
     /// Every opcode that is no prefix, behind each prefix and without one.

@@ -304,6 +304,7 @@ fn hostile_files_in_64_mb() {
         ("shared text", build::shared_text(0xb000)),
         ("jumps", build::many_jumps()),
         ("text", build::long_constant()),
+        ("registers", build::all_registers()),
         ("wide", build::tree(true)),
         ("deep", build::tree(false)),
     ];

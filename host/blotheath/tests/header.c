@@ -24,7 +24,20 @@ static const uint8_t file[64] = {
     'E', 'N', 'D', 0, 0, 0, 0, 8,
 };
 
-/* The same with two constants: the text "a\0b", and 123456789012 in eight bytes. */
+/* The place of its instructions. */
+#define CODE 48
+
+/* What an examination of the file answers with ADD of a register in the place of LOADNIL. */
+static uint32_t examined_adding(uint8_t a) {
+    uint8_t changed[sizeof file];
+    uint32_t records[19];
+    memcpy(changed, file, sizeof changed);
+    changed[CODE] = 69;
+    changed[CODE + 1] = a;
+    return blotheath_examine(LENT(changed), LENT(records), NONE, NONE, NONE, NONE, NONE, NONE, NONE, NONE).refusal;
+}
+
+/* The file with two constants: the text "a\0b", and 123456789012 in eight bytes. */
 static const uint8_t constants[80] = {
     'R', 'I', 'T', 'E', '0', '4', '0', '0', 0, 0, 0, 80, 0, 0, 0, 0, 0, 0, 0, 0,
     'I', 'R', 'E', 'P', 0, 0, 0, 52, 0, 0, 0, 0,
@@ -146,6 +159,9 @@ int main(void) {
     missing[CHILD] = 1;
     hold(blotheath_examine(LENT(missing), LENT(records), NONE, NONE, LENT(symbols), NONE, NONE, NONE, NONE, NONE).refusal == 17,
          "a third operand that names no child");
+
+    hold(examined_adding(0) == 0, "ADD touches the two registers that there are");
+    hold(examined_adding(1) == 17, "ADD touches the register behind the last one");
 
     hold_prefixes();
     hold(blotheath_fetch(NONE).refusal == 24, "an instruction of no bytes");

@@ -3,7 +3,7 @@
 mod common;
 
 use blotheath::tables::{rows, usual};
-use blotheath::{LOAD_STACK, Refusal, STACK};
+use blotheath::{LOAD_STACK, Opcode, Refusal, STACK};
 use common::Folder;
 use std::fs;
 use std::path::{Path, PathBuf};
@@ -60,6 +60,24 @@ fn the_rows_to_lend_are_those_that_the_host_lends() {
             );
         }
     }
+}
+
+/// The header's table of registers has the opcodes that touch more than their operands name, each once.
+#[test]
+fn registers_stand_in_the_header() {
+    let header = header();
+    let (_, table) = header.split_once("where n or k is 15.\n").unwrap();
+    let (table, _) = table.split_once("*/").unwrap();
+    let words = table.split(|c: char| !c.is_ascii_uppercase() && !"_2".contains(c));
+    let mut told: Vec<&str> = words.filter(|word| word.len() > 1).collect();
+    let touches_more = |opcode: &Opcode| opcode.registers.iter().any(|words| words.len() > 1);
+    let mut names: Vec<&str> = Opcode::all()
+        .filter(touches_more)
+        .map(|opcode| opcode.name)
+        .collect();
+    told.sort();
+    names.sort();
+    assert_eq!(told, names);
 }
 
 #[test]

@@ -136,8 +136,9 @@ fn the_search_agrees_with_the_verdict() {
     let mut numbers = Numbers(1);
     let mut found = BTreeSet::new();
     let mut files: Vec<Vec<u8>> = files().iter().map(|path| fs::read(path).unwrap()).collect();
-    // Few files have prefixes.
+    // Few files have prefixes, or touch the last of their registers.
     files.extend(vec![build::wide(); 8]);
+    files.extend(vec![build::touching(); 8]);
     files.push(build::newer());
     for round in 0..6_000 {
         let file = damaged(&files[round % files.len()], &mut numbers);

@@ -1,11 +1,12 @@
-//! The page of opcodes, held against the model and, but for names, against the archive's fetch, examination and run.
+//! The page of opcodes, held against the model, the library's registers and, but for names, the archive's fetch, examination and run.
 
 mod common;
 
-use blotheath::{Choice, Standing, bytes_of, examine, ffi, follow};
+use blotheath::{Choice, Standing, Steps, bytes_of, examine, ffi, follow};
 use common::build::{self, EXT1, EXT2, EXT3, NREGS, STOP};
 use common::json::{Value, parse};
 use common::run;
+use std::collections::BTreeSet;
 use std::fs;
 use std::path::Path;
 
@@ -24,6 +25,7 @@ struct Row {
     size: usize,
     behind: [Option<usize>; 3],
     roles: Vec<String>,
+    registers: String,
     flow: String,
 }
 
@@ -41,6 +43,7 @@ impl Row {
             size: value.get("size").number() as usize,
             behind: PREFIXES.map(size_behind),
             roles: roles.map(|role| role.text().to_owned()).collect(),
+            registers: value.get("registers").text().to_owned(),
             flow: value.get("flow").text().to_owned(),
         }
     }
@@ -56,7 +59,54 @@ impl Row {
     fn jumps(&self) -> bool {
         ["jumps", "goes on or jumps"].contains(&&self.flow[..])
     }
+
+    /// Whether registers are counted by an operand that names none.
+    fn counts(&self, place: usize) -> bool {
+        let is_last = place + 1 == self.roles.len();
+        let has = |letter: char| self.registers.contains(letter);
+        self.roles[place] == "plain" && (has(LETTERS[place]) || is_last && has('n'))
+    }
+
+    /// The registers that an instruction touches: operands that are registers, and those of the column's words.
+    fn touched(&self, operands: [u32; 3]) -> BTreeSet<i64> {
+        let named = self.roles.iter().zip(operands.map(i64::from));
+        let named = named.filter(|(role, _)| *role == "register");
+        let mut touched: BTreeSet<i64> = named.map(|(_, register)| register).collect();
+        for words in self.registers.split(", ").filter(|words| !words.is_empty()) {
+            let (first, last) = words.split_once("..").unwrap_or((words, words));
+            touched.extend(self.sum(first, operands)..=self.sum(last, operands));
+        }
+        touched
+    }
+
+    /// A sum in the letters of the operands: `a+n+2k+1`.
+    fn sum(&self, words: &str, operands: [u32; 3]) -> i64 {
+        let counting = operands[self.roles.len() - 1];
+        let (n, k) = (counting & 15, counting >> 4 & 15);
+        let parts = words.replace('-', "+-");
+        let value = |part: &str| match part {
+            "a" => operands[0].into(),
+            "b" => operands[1].into(),
+            "2b" => 2 * i64::from(operands[1]),
+            "c" => operands[2].into(),
+            "n" if n == 15 => 1,
+            "n" => n.into(),
+            "2k" if k == 15 => 1,
+            "2k" => 2 * i64::from(k),
+            number => number.parse().unwrap(),
+        };
+        parts.split('+').map(value).sum()
+    }
+
+    /// How many registers a record needs for an instruction with these operands.
+    fn needed(&self, operands: [u32; 3]) -> u16 {
+        let last = self.touched(operands).last().copied();
+        last.map_or(0, |last| last as u16 + 1)
+    }
 }
+
+/// The letters of the operands.
+const LETTERS: [char; 3] = ['a', 'b', 'c'];
 
 fn rows() -> Vec<Row> {
     let read = parse(&run(&["opcodes", "--json"]).out);
@@ -115,14 +165,18 @@ impl Instruction {
         }
     }
 
-    /// The bytes of the instruction with one operand, the others 0.
-    fn with(&self, place: usize, operand: u32) -> Vec<u8> {
+    /// The bytes of the instruction with these operands.
+    fn of(&self, operands: [u32; 3]) -> Vec<u8> {
         let mut code = self.first();
-        for (at, width) in self.widths().into_iter().enumerate() {
-            let operand = if at == place { operand } else { 0 };
+        for (operand, width) in operands.into_iter().zip(self.widths()) {
             code.extend(&operand.to_be_bytes()[4 - width..]);
         }
         code
+    }
+
+    /// The same with one operand, the others 0.
+    fn with(&self, place: usize, operand: u32) -> Vec<u8> {
+        self.of(one_operand(place, operand))
     }
 
     /// The bytes of the instruction with a distance, where it is a jump, and else with zeros.
@@ -131,6 +185,11 @@ impl Instruction {
         let place = roles.iter().position(|role| role == "jump");
         self.with(place.unwrap_or(roles.len()), distance as u16 as u32)
     }
+}
+
+/// Operands of which all but one are 0; all where there is none at the place.
+fn one_operand(place: usize, operand: u32) -> [u32; 3] {
+    std::array::from_fn(|at| if at == place { operand } else { 0 })
 }
 
 /// What operands name, in the order of a file's counts.
@@ -157,8 +216,8 @@ fn refusal(code: &[u8], counts: [u16; 4]) -> u32 {
     }
 }
 
-/// One of each.
-const ONE: [u16; 4] = [1; 4];
+/// The registers that any instruction needs whose operands are 0, and one of each other.
+const ENOUGH: [u16; 4] = [3, 1, 1, 1];
 
 #[test]
 fn opcodes_and_kinds_are_in_the_order_of_ops_h() {
@@ -178,14 +237,14 @@ fn opcodes_and_kinds_are_in_the_order_of_ops_h() {
 fn page() -> (String, Vec<String>) {
     let ran = run(&["opcodes"]);
     assert_eq!(ran.status, 0, "{ran:?}");
-    assert!(ran.out.lines().all(|line| line.len() <= 100), "{}", ran.out);
+    assert!(ran.out.lines().all(|line| line.len() <= 106), "{}", ran.out);
     let (_, table) = ran.out.split_once("\n\n").unwrap();
     let mut lines = table.lines().map(str::to_owned);
     (lines.next().unwrap(), lines.collect())
 }
 
 /// What stands below each heading in an opcode's line.
-fn cells(row: &Row) -> [(&'static str, String); 9] {
+fn cells(row: &Row) -> [(&'static str, String); 10] {
     let shown = |size: Option<usize>| size.map_or("-".to_owned(), |size| size.to_string());
     let [ext1, ext2, ext3] = row.behind.map(shown);
     [
@@ -197,6 +256,7 @@ fn cells(row: &Row) -> [(&'static str, String); 9] {
         ("EXT2", ext2),
         ("EXT3", ext3),
         ("operands", row.roles.join(", ")),
+        ("registers", row.registers.clone()),
         ("run", row.flow.clone()),
     ]
 }
@@ -244,7 +304,7 @@ fn examination_has_these_sizes() {
     for instruction in instructions() {
         let code = [instruction.first(), vec![0; 8]].concat();
         for length in 1..=instruction.size {
-            let met = refusal(&code[..length], ONE);
+            let met = refusal(&code[..length], ENOUGH);
             let is_cut = length < instruction.size;
             let name = instruction.name();
             match (instruction.prefix, length) {
@@ -272,34 +332,65 @@ fn a_prefix_has_no_instruction_of_its_own() {
         assert_eq!(is_told, row.is_prefix(), "{}", row.name);
     }
     for behind in PREFIXES {
-        assert_eq!(refusal(&[behind], ONE), 25);
+        assert_eq!(refusal(&[behind], ENOUGH), 25);
         for prefix in PREFIXES {
             for length in 0..8 {
                 let code = [vec![prefix, behind], vec![0; length]].concat();
-                assert_eq!(refusal(&code, ONE), 25, "{code:?}");
+                assert_eq!(refusal(&code, ENOUGH), 25, "{code:?}");
             }
         }
     }
 }
 
-/// An operand of 1, where there is one of each and where there are two of one kind.
+/// Whether a record with these counts has what an operand of 1 names, and the registers of its instruction, whose other operands are 0.
+fn has_named(row: &Row, place: usize, counts: [u16; 4]) -> bool {
+    let things = NAMED.iter().zip(counts).skip(1);
+    let mut missing = things.filter(|(thing, number)| row.roles[place] == **thing && *number < 2);
+    missing.next().is_none() && counts[0] >= row.needed(one_operand(place, 1))
+}
+
+/// An operand of 1, where there are as many registers as zeros need and one of each other, and where there is one more of one kind.
 #[test]
 fn examination_has_these_roles() {
     for instruction in instructions() {
-        let roles = &instruction.row.roles;
-        assert_eq!(roles.len(), instruction.widths().len());
-        for (place, role) in roles.iter().enumerate() {
+        let row = &instruction.row;
+        assert_eq!(row.roles.len(), instruction.widths().len());
+        let few = [row.needed([0; 3]), 1, 1, 1];
+        let more = |thing| std::array::from_fn(|at| few[at] + u16::from(at == thing));
+        for place in 0..row.roles.len() {
             let code = [instruction.with(place, 1), vec![STOP, STOP]].concat();
-            let names = NAMED.contains(&&role[..]);
-            let met = if names { 17 } else { 0 };
-            let name = instruction.name();
-            assert_eq!(refusal(&code, ONE), met, "operand {place} of {name}");
-            for (index, thing) in NAMED.iter().enumerate() {
-                let mut counts = ONE;
-                counts[index] = 2;
-                let met = if names && role != thing { 17 } else { 0 };
-                let what = format!("operand {place} of {name}, two of {thing}");
-                assert_eq!(refusal(&code, counts), met, "{what}");
+            for counts in [few, more(0), more(1), more(2), more(3)] {
+                let met = if has_named(row, place, counts) { 0 } else { 17 };
+                let what = format!("operand {place} of {}", instruction.name());
+                assert_eq!(refusal(&code, counts), met, "{what} with {counts:?}");
+            }
+        }
+    }
+}
+
+/// Operands of up to 20, and all four bits of n and k.
+#[test]
+fn the_library_touches_these_registers() {
+    let counted = [0, 1, 2, 3, 14, 15, 16, 17, 31, 240, 241, 255];
+    for instruction in instructions() {
+        let row = &instruction.row;
+        for [a, b] in [[0, 0], [0, 20], [7, 1], [20, 3], [5, 6]] {
+            for last in counted {
+                let mut operands = [a, b, 0];
+                if let Some(place) = row.roles.len().checked_sub(1).filter(|at| row.counts(*at)) {
+                    operands[place] = last;
+                }
+                let code = instruction.of(operands);
+                let step = Steps::new(&code).next().unwrap().unwrap();
+                let touched = step.registers();
+                let touched = touched.flat_map(|one| one.first.into()..=one.last.into());
+                let touched: BTreeSet<i64> = touched.collect();
+                assert_eq!(
+                    touched,
+                    row.touched(operands),
+                    "{} {operands:?}",
+                    instruction.name()
+                );
             }
         }
     }
@@ -311,11 +402,11 @@ fn examination_lets_end_what_does_not_go_on() {
     for instruction in instructions() {
         let code = instruction.jumping(-(instruction.size as i16));
         let met = if instruction.row.goes_on() { 18 } else { 0 };
-        assert_eq!(refusal(&code, ONE), met, "{}", instruction.name());
+        assert_eq!(refusal(&code, ENOUGH), met, "{}", instruction.name());
     }
 }
 
-/// An operand of ones is a distance of -1, back into the instruction; a plain one may be any number.
+/// An operand of ones is a distance of -1, back into the instruction; a plain one that counts no registers may be any number.
 #[test]
 fn examination_looks_where_a_jump_leads() {
     for instruction in instructions() {
@@ -323,12 +414,12 @@ fn examination_looks_where_a_jump_leads() {
         let has_distance = row.roles.iter().any(|role| role == "jump");
         assert_eq!(has_distance, row.jumps(), "{name}");
         for (place, role) in row.roles.iter().enumerate() {
-            if NAMED.contains(&&role[..]) {
+            if NAMED.contains(&&role[..]) || row.counts(place) {
                 continue;
             }
             let code = [instruction.with(place, u32::MAX), vec![STOP]].concat();
             let met = if role == "jump" { 18 } else { 0 };
-            assert_eq!(refusal(&code, ONE), met, "operand {place} of {name}");
+            assert_eq!(refusal(&code, ENOUGH), met, "operand {place} of {name}");
         }
     }
 }
@@ -338,7 +429,7 @@ fn examination_looks_where_a_jump_leads() {
 fn a_run_goes_where_the_page_says() {
     for instruction in instructions() {
         let code = [instruction.jumping(1), vec![STOP, STOP]].concat();
-        let file = file(&code, ONE);
+        let file = file(&code, ENOUGH);
         let stands = |choice: Choice| match follow(&file, &bytes_of(&[choice])).unwrap() {
             Standing::Finished => None,
             Standing::At { top, .. } => Some(top.offset as usize - instruction.size),

@@ -75,6 +75,7 @@ fn refused() -> Vec<(u32, Vec<u8>)> {
         (16, build::one(&[build::EXT1, 200, 118], &[], &[])),
         (17, sample_with(493 + 9, 9)),
         (17, build::one(&build::NEWER, &[], &build::NEWER_SYMBOLS)),
+        (17, build::with_registers(6, &build::TOUCHING, &[b"s"])),
         (18, sample_with(595 + 33, 1)),
         (19, build::with_handlers(&[118], &[0, 77])),
         (20, with_lines(b"a.rb", &[(2, 1), (0, 2)])),

@@ -2,20 +2,13 @@
 
 mod common;
 
-use blotheath::{FILE_LIMIT, Place, Refusal, examine, load, locate};
+use blotheath::{FILE_LIMIT, Refusal, load, locate};
 use common::json::{Value, parse};
-use common::{Folder, Numbers, build, damaged, files, run, run_with, sample_bytes, steers};
+use common::{
+    Folder, Numbers, build, damaged, files, refused, run, run_with, sample_bytes, steers,
+};
 use std::collections::BTreeSet;
 use std::fs;
-
-/// The refusal of a file and its place.
-fn refused(file: &[u8]) -> (u32, Place) {
-    let refusal = examine(file).unwrap_err();
-    let pattern = load(file).ok();
-    let place = locate(file, pattern.as_ref(), refusal);
-    let place = place.unwrap_or_else(|| panic!("{refusal} has no place in {file:?}"));
-    (refusal.number(), place)
-}
 
 /// What a place of a file that does not load is expected to say.
 type Expected = (u32, Option<&'static str>, u32, Option<u32>, &'static str);

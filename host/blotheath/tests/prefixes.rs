@@ -2,15 +2,12 @@
 
 mod common;
 
-use blotheath::{
-    Choice, Constant, Frame, Pattern, Place, Standing, Step, bytes_of, examine, follow, load,
-    locate,
-};
+use blotheath::{Choice, Constant, Frame, Pattern, Standing, Step, bytes_of, examine, follow};
 use common::build::{
     self, EXT1, EXT2, EXT3, FIRST_CODE, JMP, LOADNIL, NOP, STOP, WIDE, WIDE_NUMBER,
 };
 use common::json::{Value, parse};
-use common::{Folder, compiled, run, run_with};
+use common::{Folder, compiled, refused, run, run_with};
 use std::fs;
 
 /// The file with wide operands, in a folder of its own.
@@ -18,14 +15,6 @@ fn wide(name: &str) -> (Folder, String) {
     let folder = Folder::new(name);
     let path = folder.file("wide.mrb", &build::wide());
     (folder, path)
-}
-
-/// The refusal of a file that loads, and its place.
-fn refused(file: &[u8]) -> (u32, Place) {
-    let refusal = examine(file).unwrap_err();
-    assert_eq!(follow(file, &[]), Err(refusal));
-    let place = locate(file, load(file).ok().as_ref(), refusal);
-    (refusal.number(), place.unwrap())
 }
 
 #[test]
@@ -38,7 +27,7 @@ fn a_prefix_and_its_opcode_are_one_step() {
         "  4  EXT2 LOADL      R1, 1256\n",
         "  9  EXT3 MOVE       R255, R256 rods\n",
         " 15  EXT2 LOADSYM    R1, :s299\n",
-        " 20  EXT3 SEND       R256 rods, :s257, 1 argument\n",
+        " 20  EXT3 SEND       R256 rods, :s257, 1 argument  touches R256..R257\n",
         " 27  EXT2 BLOCK      R1, record 257\n",
         " 32  EXT3 METHOD     R256 rods, record 300\n",
         "╭─┬─▶    38  EXT1 JMPNOT     R256 rods, to 48\n",
@@ -240,7 +229,9 @@ const NAMING: [(u32, &str, &str, u32, &str); 11] = [
 #[test]
 fn a_wide_operand_is_below_its_number() {
     for (offset, name, ordinal, at, thing) in NAMING {
-        for named in [0, 255, 256, WIDE_NUMBER - 1] {
+        // SEND has an argument in the register behind its own.
+        let behind = u16::from(name == "EXT3 SEND" && thing == "register");
+        for named in [0, 255, 256, WIDE_NUMBER - 1 - behind] {
             assert!(examine(&with(at as usize, named)).is_ok(), "{name}");
         }
         for named in [WIDE_NUMBER, 511, 65_535] {

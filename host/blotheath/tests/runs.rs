@@ -56,7 +56,7 @@ fn every_standing_is_the_archives() {
     let mut numbers = Numbers(13);
     let mut tried = 0;
     let mut stock: Vec<Vec<u8>> = files().iter().map(|path| fs::read(path).unwrap()).collect();
-    stock.extend([build::newer(), build::wide()]);
+    stock.extend([build::newer(), build::wide(), build::touching()]);
     for file in stock {
         let others = (0..20).map(|_| damaged(&file, &mut numbers));
         let others: Vec<Vec<u8>> = others.collect();

@@ -3,6 +3,7 @@
 use crate::Refusal;
 use crate::insn::{Flow, OPCODES, Role, flow, is_prefix, roles};
 use crate::load::read;
+use crate::registers::last_register;
 use crate::rows::{Loaded, Record, Rows, Sizes};
 
 /// Loads a file and examines it; a file that passes answers what its load answers.
@@ -168,6 +169,11 @@ fn examine_record(file: &[u8], rows: &Rows, record: &Record) -> Result<(), Refus
             if bound(role, record).is_some_and(|bound| operand >= bound) {
                 return Err(17);
             }
+        }
+        // "every register so named, or given a role in c), is below nregs"
+        let last = last_register(opcode, step.operands);
+        if last.is_some_and(|last| last >= i64::from(record.nregs)) {
+            return Err(17);
         }
         if step.target().is_some_and(|target| !begins(target)) {
             return Err(18);

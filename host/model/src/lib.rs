@@ -1,4 +1,4 @@
-//! Paper 01 and requests b), c), d) and g) of paper 02 as plain Rust: slow, readable, without any `unsafe`. Opcode names and operand kinds are those of insn.rs.
+//! Paper 01 and requests b), c), d), e), g) and j) of paper 02 as plain Rust: slow, readable, without any `unsafe`. Opcode names and operand kinds are those of insn.rs.
 //!
 //! Comments in quotation marks are the papers' own words.
 //! A refusal is its number; 0 stands for none where a number is answered.
@@ -11,6 +11,7 @@ mod insn;
 mod line;
 mod load;
 mod lookup;
+mod registers;
 mod rows;
 
 pub use examine::{Step, bound, child, examine, is_whole, passes, step_at};
@@ -22,6 +23,7 @@ pub use lookup::{
     Constant, FoundFile, FoundHandler, FoundText, debug_file, handler, instructions, line, name,
     pool, symbol,
 };
+pub use registers::{Registers, last_register, registers};
 pub use rows::{
     DebugFile, Entry, Handler, Loaded, NAMES, Name, PoolRow, ROW_WORDS, Record, Rows, Sizes, Span,
     Table, Tables, Text,

@@ -3,7 +3,7 @@
 use super::beside::{self, Beside};
 use super::choices::{self, Choices, told};
 use super::json::Json;
-use super::meaning::{Meaning, Reader};
+use super::meaning::{Meaning, Reader, registers_member, touched};
 use super::source::Source;
 use super::style::Style;
 use super::text::{self, counted};
@@ -275,13 +275,15 @@ impl<'w, 'p, 'a> View<'w, 'p, 'a> {
         }
     }
 
+    /// A step, with the registers that it touches.
     fn step(&self, number: u32, step: &Step) -> String {
         let Some(record) = self.reader.pattern.record(number) else {
             return String::new();
         };
         let meanings = self.reader.meanings(number, &record, step);
         let operands: Vec<String> = meanings.iter().map(Meaning::shown).collect();
-        format!("{} {}", step.name(), operands.join(", "))
+        let (name, touched) = (step.name(), touched(step).unwrap_or_default());
+        format!("{name} {}  {touched}", operands.join(", "))
             .trim_end()
             .to_owned()
     }
@@ -532,6 +534,9 @@ fn write_frame(
     json.key("record")?.number(frame.record)?;
     json.key("offset")?.number(frame.offset)?;
     json.key("line")?.optional(line(pattern, frame)?)?;
+    if let Some(step) = pattern.step_at(frame) {
+        registers_member(json, &step)?;
+    }
     match beside {
         Some(beside) => beside.member(json, frame.record, frame.offset, text::LINE),
         None => Ok(()),

@@ -45,12 +45,13 @@ blotheath steps FILE [--source SOURCE.rb] [--json] [--all]
 
 Each instruction of each record: its offset, name, operands with their meaning, and source line. Jumps are drawn in the
 margin. A prefix is one step with the opcode behind it, and the step's offset is the prefix's: EXT1 widens the first operand
-to two bytes, EXT2 the second, EXT3 both. In JSON \"prefix\" is the prefix's byte, or null. A file that loads but does not
-pass is shown as far as it can be read, and the exit status is 1. Up to 65,536 steps are shown, as many as a file without
-overlapping records can have, and up to 48 bytes of a text (256 in JSON, where a constant that is cut has its \"length\" and
-the number of its \"zeros\"); --all shows every step, and every text whole. The lines of SOURCE.rb are shown beside the
-steps of the debug files of that name, and where there is no such file that is told; nothing proves that it is the source
-of the pattern.
+to two bytes, EXT2 the second, EXT3 both. In JSON \"prefix\" is the prefix's byte, or null. Where a step touches more registers
+than its operands name, as ADD R4 also touches R5, they stand behind the operands: touches R4..R5. In JSON \"registers\" has
+all that a step touches, as pairs of the first and the last: [[4,5]]. A file that loads but does not pass is shown as far as
+it can be read, and the exit status is 1. Up to 65,536 steps are shown, as many as a file without overlapping records can
+have, and up to 48 bytes of a text (256 in JSON, where a constant that is cut has its \"length\" and the number of its
+\"zeros\"); --all shows every step, and every text whole. The lines of SOURCE.rb are shown beside the steps of the debug
+files of that name, and where there is no such file that is told; nothing proves that it is the source of the pattern.
 
 Examples
     blotheath steps oval.mrb
@@ -69,8 +70,8 @@ Runs a file that passes, from its first instruction, along the choices, and show
     leave       leaves the top frame
 A choice that is not open is go, and that is told. A choice may have a number of times before it: 12 go. Choices may also
 be given as bytes: 0 1 2 3 4 in hexadecimal, two digits each, after `bytes`. --each shows the frames after every choice.
-Without choices they are asked for one by one. The lines of SOURCE.rb are shown beside the frames in debug files of that
-name.
+Without choices they are asked for one by one. The registers that the step of a frame touches are told as in `steps`. The
+lines of SOURCE.rb are shown beside the frames in debug files of that name.
 
 The frames at the end of the choices are the proved archive's answer. Those on the way there, after each choice of --each
 and after each answer, are this program's own steps, which are tested, not proved. At the end they are held against the
@@ -100,13 +101,17 @@ const OPCODES: &str = "\
 blotheath opcodes [--json]
 
 One line for each opcode, in the order of mruby's ops.h: its byte, its name, its kind of operands, the bytes of its
-instruction alone and behind each prefix, what its operands name, and where a run goes from it. A prefix adds one byte,
-and one for each operand that it widens; a prefix behind a prefix is refused by 25. An operand that names a register,
-constant, symbol or child that the record does not have is refused by 17, a jump or a step that leads to where no
-instruction begins by 18; a plain operand may be any number. The kinds are the proved archive's answers; the rest is
-this program's own, and tests hold all but the names against what the archive fetches, examines and follows.
+instruction alone and behind each prefix, what its operands name, the registers that it touches, and where a run goes from
+it. A prefix adds one byte, and one for each operand that it widens; a prefix behind a prefix is refused by 25.
 
-In JSON \"behind\" has the sizes by the prefix's byte; they are null for a prefix.
+A step is refused by 17 where an operand names a constant, symbol or child, or the step touches a register, that the record
+does not have. Registers are told by the operands a, b and c: SETIDX touches a, a+1 and a+2, ARRAY2 a and the c registers
+from b on. n is the low four bits of the last operand, k the next four; n or 2k is one register where n or k is 15. A range
+that ends below its start has none, and an operand that is a register always counts. A jump or a step that leads to where no
+instruction begins is refused by 18. A plain operand that counts no registers may be any number.
+
+The kinds are the proved archive's answers; the rest is this program's own, and tests hold all but the names against what
+the archive fetches, examines and follows. In JSON \"behind\" has the sizes by the prefix's byte; they are null for a prefix.
 
 Examples
     blotheath opcodes

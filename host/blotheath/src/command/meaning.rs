@@ -1,9 +1,9 @@
-//! What the operands of a step mean.
+//! What the operands of a step mean, and which registers it touches.
 
 use super::json::Json;
 use super::load::{constant_members, short_text};
 use super::text;
-use blotheath::{Constant, Pattern, Record, Role, Step, Text, Tree, opcode_name, roles};
+use blotheath::{Constant, Pattern, Record, Registers, Role, Step, Text, Tree, opcode_name, roles};
 use std::io;
 
 /// An operand with its meaning.
@@ -81,6 +81,29 @@ impl<'a> Reader<'_, 'a> {
     }
 }
 
+/// The registers that a step touches, where they are more than its operands name: `touches R4..R6`.
+pub fn touched(step: &Step) -> Option<String> {
+    let registers: Vec<Registers> = step.registers().collect();
+    let is_more = registers.iter().any(|one| one.first < one.last);
+    is_more.then(|| {
+        let shown: Vec<String> = registers.iter().map(Registers::to_string).collect();
+        format!("touches {}", shown.join(", "))
+    })
+}
+
+/// All registers that a step touches as a member of a JSON object: pairs of the first and the last.
+pub fn registers_member(json: &mut Json, step: &Step) -> io::Result<()> {
+    json.key("registers")?.array(|json| {
+        let mut registers = step.registers();
+        registers.try_for_each(|one| {
+            json.array(|json| {
+                json.number(one.first)?;
+                json.number(one.last)
+            })
+        })
+    })
+}
+
 /// The number of LOADI32, whose second and third operand are its halves.
 fn halves(step: &Step) -> Option<i32> {
     let [_, high, low] = step.operands;
@@ -102,7 +125,7 @@ fn plain<'a>(step: &Step, place: usize) -> Meaning<'a> {
         (Some("LOADI" | "ADDI" | "SUBI"), 1) => Meaning::Number(value, value.into()),
         (Some("LOADINEG"), 1) => Meaning::Number(value, -i64::from(value)),
         (Some("LOADI16"), 1) => Meaning::Number(value, (value as u16 as i16).into()),
-        (Some("SEND" | "SENDB" | "SSEND" | "SSENDB"), 2) => {
+        (Some("SEND" | "SENDB" | "SSEND" | "SSENDB"), 2) | (Some("SUPER"), 1) => {
             Meaning::Plain(value, Some(arguments(value)))
         }
         (Some("GETUPVAR" | "SETUPVAR"), 1) => Meaning::Plain(value, Some(format!("R{value}"))),

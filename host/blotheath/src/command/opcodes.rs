@@ -1,4 +1,4 @@
-//! `blotheath opcodes`: each opcode with its sizes, a page to hold beside mruby's ops.h.
+//! `blotheath opcodes`: each opcode with its sizes and the registers that it touches, a page to hold beside mruby's ops.h.
 
 use super::json::Json;
 use super::load::aligned;
@@ -11,11 +11,23 @@ use std::io::{self, Write};
 const ABOUT: &str = "\
 Sizes are the bytes of a whole instruction, its opcode and its prefix counted. A prefix adds one
 byte, and one for each operand that it widens; a prefix behind a prefix is refused by 25 (-).
+Registers are those that an instruction touches by its operands a, b and c. n is the low four bits
+of the last operand, k the next four; n or 2k is one register where n or k is 15. A range that ends
+below its start has none, and an operand that is a register always counts.
 ";
 
 /// The headings; one that begins with `>` stands above numbers.
-const HEADINGS: [&str; 9] = [
-    ">byte", "name", "kind", ">size", ">EXT1", ">EXT2", ">EXT3", "operands", "run",
+const HEADINGS: [&str; 10] = [
+    ">byte",
+    "name",
+    "kind",
+    ">size",
+    ">EXT1",
+    ">EXT2",
+    ">EXT3",
+    "operands",
+    "registers",
+    "run",
 ];
 
 pub fn run(out: &mut dyn Write, style: Style, json: bool) -> io::Result<Status> {
@@ -52,6 +64,7 @@ fn cells(opcode: &Opcode) -> Cells {
         ext2,
         ext3,
         role_words(opcode).join(", "),
+        opcode.registers.join(", "),
         flow_word(opcode).to_owned(),
     ]
 }
@@ -114,5 +127,7 @@ fn members(json: &mut Json, opcode: &Opcode) -> io::Result<()> {
         let mut words = role_words(opcode).into_iter();
         words.try_for_each(|word| json.string(word))
     })?;
+    json.key("registers")?
+        .string(&opcode.registers.join(", "))?;
     json.key("flow")?.string(flow_word(opcode))
 }

@@ -5,7 +5,7 @@ use super::beside::{self, Beside};
 use super::json::Json;
 use super::labels::labels;
 use super::load::SHARED_TEXT;
-use super::meaning::{Meaning, Reader};
+use super::meaning::{Meaning, Reader, registers_member, touched};
 use super::source::Source;
 use super::style::Style;
 use super::text::{self, counted, grouped};
@@ -156,6 +156,9 @@ pub fn margin(steps: &[Step]) -> Margin {
 const OPCODE_COLUMNS: usize = 10;
 const PREFIX_COLUMNS: usize = 5;
 
+/// The columns that operands have before the registers that a step touches.
+const OPERAND_COLUMNS: usize = 24;
+
 /// The columns that the names of these steps have.
 fn name_columns(steps: &[Step]) -> usize {
     match steps.iter().any(|step| step.prefix.is_some()) {
@@ -223,7 +226,7 @@ impl View<'_, '_, '_> {
         line.map_err(io::Error::other)
     }
 
-    /// Writes a step; the first of a line has the line's number, and the source's text behind it.
+    /// Writes a step, with the registers that it touches; the first of a line has the line's number, and the source's text behind it.
     fn step(
         &mut self,
         number: u32,
@@ -244,16 +247,21 @@ impl View<'_, '_, '_> {
             .iter()
             .map(|meaning| meaning.shown_up_to(self.most.text))
             .collect();
-        let operands = operands.join(", ");
+        let mut operands = operands.join(", ");
+        let mut behind = String::new();
+        if let Some(touched) = touched(step) {
+            operands = format!("{operands:<OPERAND_COLUMNS$}");
+            behind = format!("  {touched}");
+        }
         let row = |line: &str, margin: &str, name: &str| {
             format!("{line}  {margin}{:>5}  {name} {operands}", step.offset)
         };
-        let source = beside.map(|beside| {
-            let width = row(&line, margin, name).chars().count();
-            beside.behind(width, number, step.offset, self.most.line)
-        });
+        if let Some(beside) = beside {
+            let width = (row(&line, margin, name) + &behind).chars().count();
+            behind += &beside.behind(width, number, step.offset, self.most.line);
+        }
         let row = row(&style.dim(&line), &style.arrow(margin), &style.bold(name));
-        let row = row + &style.dim(&source.unwrap_or_default());
+        let row = row + &style.dim(&behind);
         writeln!(self.out, "{}", row.trim_end())
     }
 
@@ -363,6 +371,7 @@ impl Steps<'_, '_> {
             }
             Ok(())
         })?;
+        registers_member(json, step)?;
         json.key("line")?
             .optional(line.map_err(io::Error::other)?)?;
         match &self.beside {

@@ -89,6 +89,17 @@ impl Found {
         })
     }
 
+    /// A refusal by 17 at an operand of a step.
+    fn at_operand(record: &Record, step: &Step, place: usize, what: String) -> Found {
+        Found {
+            refusal: 17,
+            section: "IREP",
+            byte: Some(record.place + step.offset_of(place)),
+            offset: Some(step.offset),
+            what,
+        }
+    }
+
     /// An instruction that cannot be read; the byte is the one that is refused.
     fn unreadable(record: &Record, bad: BadStep) -> Found {
         Found {
@@ -173,7 +184,9 @@ fn search_record(
 }
 
 fn search_step(record: &Record, step: &Step, begins: &Begins) -> Option<Found> {
-    search_operands(record, step).or_else(|| search_targets(record, step, begins))
+    search_operands(record, step)
+        .or_else(|| search_registers(record, step))
+        .or_else(|| search_targets(record, step, begins))
 }
 
 /// The first operand that names what the record does not have; the byte is the operand's own.
@@ -185,16 +198,25 @@ fn search_operands(record: &Record, step: &Step) -> Option<Found> {
             return None;
         }
         let (ordinal, name, thing) = (ORDINALS[place], step.name(), role.word());
-        Some(Found {
-            refusal: 17,
-            section: "IREP",
-            byte: Some(record.place + step.offset_of(place)),
-            offset: Some(step.offset),
-            what: format!(
-                "the {ordinal} operand of {name} names {thing} {operand}, counted from 0, and the record has {number}"
-            ),
-        })
+        let what = format!(
+            "the {ordinal} operand of {name} names {thing} {operand}, counted from 0, and the record has {number}"
+        );
+        Some(Found::at_operand(record, step, place, what))
     })
+}
+
+/// The first registers that a step touches and the record does not have; the byte is that of the operand from which they are counted.
+fn search_registers(record: &Record, step: &Step) -> Option<Found> {
+    let number = record.nregs;
+    let touched = step.registers().find(|touched| touched.last >= number)?;
+    let first = touched.first.max(number);
+    let registers = match touched.last {
+        last if last == first => format!("register {first}"),
+        last => format!("registers {first} to {last}"),
+    };
+    let name = step.name();
+    let what = format!("{name} touches {registers}, counted from 0, and the record has {number}");
+    Some(Found::at_operand(record, step, touched.operand, what))
 }
 
 /// How many things of a role a record has; a plain operand names none.

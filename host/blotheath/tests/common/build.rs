@@ -84,6 +84,13 @@ pub fn one(code: &[u8], constants: &[&[u8]], symbols: &[&[u8]]) -> Vec<u8> {
     file(&[irep(&record(0, code, constants, symbols))])
 }
 
+/// A file of one record of this code, with so many registers.
+pub fn with_registers(registers: u16, code: &[u8], symbols: &[&[u8]]) -> Vec<u8> {
+    let mut record = record(0, code, &[], symbols);
+    record[NREGS].copy_from_slice(&registers.to_be_bytes());
+    file(&[irep(&record)])
+}
+
 /// A file of one record of this code, with handlers that go to these targets.
 pub fn with_handlers(code: &[u8], targets: &[u32]) -> Vec<u8> {
     let mut content = head(0, 1, 8, 0, code.len() as u32);
@@ -114,12 +121,23 @@ pub const LOADL: u8 = 2;
 pub const LOADSYM: u8 = 16;
 pub const LOADNIL: u8 = 17;
 pub const GETIDX0: u8 = 36;
+pub const SETIDX: u8 = 37;
 pub const JMP: u8 = 38;
 pub const JMPNOT: u8 = 40;
+pub const SSEND: u8 = 47;
 pub const SSEND0: u8 = 48;
+pub const SSENDB: u8 = 49;
 pub const SEND: u8 = 50;
 pub const SEND0: u8 = 51;
+pub const SENDB: u8 = 52;
+pub const SUPER: u8 = 55;
 pub const RETURN: u8 = 61;
+pub const ADD: u8 = 69;
+pub const ARRAY: u8 = 82;
+pub const ARRAY2: u8 = 83;
+pub const ARYPUSH: u8 = 85;
+pub const HASH: u8 = 94;
+pub const HASHADD: u8 = 95;
 pub const LAMBDA: u8 = 97;
 pub const BLOCK: u8 = 98;
 pub const METHOD: u8 = 99;
@@ -214,6 +232,13 @@ pub fn long_constant() -> Vec<u8> {
     one(&code, &[&text], &[])
 }
 
+/// A file of one record where every step touches all of 65,535 registers.
+pub fn all_registers() -> Vec<u8> {
+    let mut code = [EXT3, HASHADD, 0, 0, 0x7f, 0xff].repeat(10_000);
+    code.push(STOP);
+    with_registers(u16::MAX, &code, &[])
+}
+
 /// A record of 1,024 children, or a chain of 1,024 records.
 pub fn tree(wide: bool) -> Vec<u8> {
     let mut content = Vec::new();
@@ -287,6 +312,34 @@ pub fn newer() -> Vec<u8> {
     names.extend([0, 0, 0, 1]);
     let records = [main, parent, leaf.clone(), leaf].concat();
     file(&[irep(&records), section(b"LVAR", &names)])
+}
+
+/// Steps that touch registers by their operands, in a record of one symbol, and some that touch no more than their operands name.
+#[rustfmt::skip]
+pub const TOUCHING: [u8; 43] = [
+    LOADNIL, 1,
+    MOVE, 2, 1,
+    ADD, 1,
+    SETIDX, 3,
+    SEND, 2, 0, 0,
+    SSEND, 2, 0, 2,
+    SENDB, 2, 0, 0x11,
+    SUPER, 4, 15,
+    ARRAY, 2, 1,
+    ARRAY2, 1, 4, 3,
+    HASH, 2, 0,
+    EXT2, HASHADD, 2, 0, 2,
+    JMP, 0, 0,
+    STOP,
+];
+
+/// A file of these steps, whose register 1 holds a named local.
+pub fn touching() -> Vec<u8> {
+    let mut main = record(0, &TOUCHING, &[], &[b"round"]);
+    main[NLOCALS].copy_from_slice(&2u16.to_be_bytes());
+    let mut names = vec![0, 0, 0, 1, 0, 4];
+    names.extend(b"rods\0\0");
+    file(&[irep(&main), section(b"LVAR", &names)])
 }
 
 /// How many registers, constants, symbols and children the record with wide operands has.

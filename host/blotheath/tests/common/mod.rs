@@ -5,6 +5,7 @@
 pub mod build;
 pub mod json;
 
+use blotheath::{Place, examine, follow, load, locate};
 use std::fs;
 use std::io::Write;
 use std::path::{Path, PathBuf};
@@ -41,6 +42,15 @@ pub fn compiled(name: &str) -> Vec<PathBuf> {
     let mut files = files();
     files.retain(|path| ends.iter().any(|end| path.ends_with(end)));
     files
+}
+
+/// The refusal of a file, and its place.
+pub fn refused(file: &[u8]) -> (u32, Place) {
+    let refusal = examine(file).unwrap_err();
+    assert_eq!(follow(file, &[]), Err(refusal));
+    let place = locate(file, load(file).ok().as_ref(), refusal);
+    let place = place.unwrap_or_else(|| panic!("{refusal} has no place in {file:?}"));
+    (refusal.number(), place)
 }
 
 /// What a command gave.

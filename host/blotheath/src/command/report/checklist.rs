@@ -49,7 +49,7 @@ const CONDITIONS: [Condition; 7] = [
     condition(
         &[17],
         When::EachStep,
-        "Every register, constant, symbol and child that a step names exists.",
+        "Every register that a step touches exists, and every constant, symbol and child that it names.",
     ),
     condition(
         &[18],

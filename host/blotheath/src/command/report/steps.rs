@@ -7,7 +7,7 @@ use super::source::Source;
 use crate::command::MOST_SHOWN;
 use crate::command::arrows::Margin;
 use crate::command::load::handler_kind;
-use crate::command::meaning::{Meaning, Reader};
+use crate::command::meaning::{Meaning, Reader, touched};
 use crate::command::steps::{Shown, margin, shown};
 use crate::command::text::{self, counted};
 use blotheath::{
@@ -270,6 +270,9 @@ impl<'v> View<'v> {
                 write!(out, "<span class=\"comma\">, </span>")?;
             }
             self.operand(out, meaning)?;
+        }
+        if let Some(touched) = touched(step) {
+            write!(out, " <span class=\"touched\">{touched}</span>")?;
         }
         if mark == Some(Mark::Step(step.offset)) {
             write!(out, "<span class=\"refusal\">{}</span>", self.refused())?;
