@@ -2,9 +2,9 @@
 -- Assumes nothing.
 use Prim.Native.Nat.{ℕ, zero, suc, _+_, _-_, _*_, _/_, _%_, _≤_, _<_}
 use mathlib.Core.Path.{_≡_}
-use mathlib.Core.Bool.{Bool, cond}
+use mathlib.Core.Bool.{cond}
 use mathlib.Core.List.{List, [], _∷_}
-use lib.Dec.{eqb, leb}
+use lib.Dec.{eqb}
 use lib.ListN.{length, getD}
 use Rattle.format.specs.Insn.{OpCode, SETMCNST, GETIDX, SETIDX, SSEND, SSENDB, SEND, SENDB, SUPER, ADD, SUB, MUL, DIV, EQ, LT, LE, GT, GE}
 use Rattle.format.specs.Insn.{ARRAY, ARRAY2, ARYCAT, ARYPUSH, APOST, STRCAT, HASH, HASHADD, HASHCAT, «RANGE_INC», «RANGE_EXC», CLASS, DEF}
@@ -19,7 +19,7 @@ pub record Range : Type 0 where
 abbrev pub range : ℕ → ℕ → Range
 range x y = record { from = x; upto = y }
 
--- How a comment names registers beside its operands, which "always count": not at all; R[a] and R[a+1]; R[a] to R[a+2]; and by what one opcode or two take
+-- How a comment names registers beside those that operands name by their roles: not at all; R[a] and R[a+1]; R[a] to R[a+2]; and as `named` says
 pub data Form : Type 0 where
   own pair triple send sendb super array array2 push post hash hashadd : Form
 
@@ -105,7 +105,7 @@ pub data Names (c : List ℕ) (o x : ℕ) : Type 0 where
   by-role : (i : ℕ) → i < length (roles (rowAt c o)) → getD (roles (rowAt c o)) i plain ≡ reg → getD (operandsAt c o) i 0 ≡ x → Names c o x
   by-comment : registersAt c o .from ≤ x → x < registersAt c o .upto → Names c o x
 
--- Paper 02's sentences and READINGS' table, register by register: a second rendering of what an opcode names behind its operands.
+-- Paper 02's sentences and the comments' ranges, register by register: a second rendering of `named`.
 -- proofs/Registers has the computed test that the two agree.
 
 -- so many registers from x on
