@@ -22,6 +22,7 @@ fn main() {
             return;
         };
         println!("cargo::rerun-if-changed={}", file.display());
+        println!("cargo::rustc-env=ORIGINAL_{part}={}", file.display());
         parts += &format!(
             "#[path = {:?}]\npub mod {part};\n",
             file.display().to_string()

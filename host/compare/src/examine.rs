@@ -2,13 +2,15 @@
 
 use crate::Stop;
 use crate::args::Args;
-use crate::generate::{Generator, all_steps};
+use crate::chosen;
+use crate::generate::{Generator, all_steps, needed_by_step};
 use crate::load::{ANSWERS, at_work, corpus, difference, garbage, other_sizes, watch};
 use crate::newer::NEWER;
 use crate::prefixes::PREFIXES;
+use crate::registers;
 use crate::rng::Rng;
 use crate::subject::{Subject, first_difference, subjects};
-use model::{OPCODES, Refusal, Sizes, Step};
+use model::{OPCODES, Record, Refusal, Sizes, Step};
 use std::collections::{BTreeMap, BTreeSet};
 
 /// The refusals of a file that loads: "none of 15 to 20 and 25".
@@ -35,8 +37,9 @@ pub fn compare(args: &Args) -> Result<(), Stop> {
             return Err(difference(name, file, &why));
         }
     }
+    let chosen = chosen_files(&subjects, seed)?;
     println!(
-        "seed {seed}, {} corpus files as described, {files} generated",
+        "seed {seed}, {} corpus files as described, {chosen} chosen ones with their answers, {files} generated",
         corpus.len()
     );
     let generator = Generator {
@@ -68,13 +71,35 @@ pub fn compare(args: &Args) -> Result<(), Stop> {
     Ok(())
 }
 
-/// The files that have each of the newer opcodes and an instruction behind each prefix, those that pass and those that meet 17.
+/// Holds every subject against the model on chosen files, and the model against their answers; how many they are.
+fn chosen_files(subjects: &[Box<dyn Subject>], seed: u64) -> Result<usize, Stop> {
+    let mut files = Vec::new();
+    for group in chosen::groups() {
+        files.extend(group.examined.into_iter().map(|file| (group.name, file)));
+    }
+    files.extend(registers::everywhere().map(|file| ("registers everywhere", file)));
+    for (number, (group, (file, right))) in files.iter().enumerate() {
+        let mut rng = Rng::new(seed, u64::MAX / 2 + number as u64);
+        let wrong = |why: String| difference(group, file, &why);
+        let [answer, _] = one(subjects, file, &mut rng).map_err(wrong)?;
+        if answer != *right {
+            return Err(wrong(format!("the answer is {answer}, not {right}")));
+        }
+    }
+    Ok(files.len())
+}
+
+/// The files that have each of the newer opcodes, an instruction behind each prefix and one that names the last register or the one behind it:
+/// those that pass and those that meet 17.
 #[derive(Default)]
 struct With {
     newer: [[u64; 2]; NEWER.len()],
     prefixes: [[u64; 2]; PREFIXES.len()],
+    border: [u64; 2],
     /// The opcodes behind each prefix in files that pass.
     behind: BTreeSet<(u8, usize)>,
+    /// The opcodes that name the last register in files that pass, and the one behind it in those that meet 17.
+    at_border: [BTreeSet<usize>; 2],
 }
 
 impl With {
@@ -85,6 +110,12 @@ impl With {
             _ => return,
         };
         let rows = model::read(file, [usize::MAX; 9]).rows;
+        let at_border: Vec<usize> = all_steps(file, &rows)
+            .filter(|(record, step)| is_at_border(record, step, side as u32))
+            .map(|(_, step)| step.opcode)
+            .collect();
+        self.border[side] += u64::from(!at_border.is_empty());
+        self.at_border[side].extend(at_border);
         let steps: Vec<Step> = all_steps(file, &rows).map(|(_, step)| step).collect();
         for (count, opcode) in self.newer.iter_mut().zip(NEWER) {
             let has_it = steps.iter().any(|step| step.opcode == opcode);
@@ -104,18 +135,28 @@ impl With {
 
     fn print(&self) {
         println!(
-            "files that have a newer opcode or an instruction behind a prefix, passed and refused 17:"
+            "files that have a newer opcode, an instruction behind a prefix, one that names the last register (refused: the one behind it), passed and refused 17:"
         );
         let newer = NEWER.into_iter().zip(self.newer);
         let prefixes = PREFIXES.into_iter().map(usize::from).zip(self.prefixes);
         for (opcode, [passed, refused]) in newer.chain(prefixes) {
             println!("  {:<11}{passed:>9}{refused:>9}", OPCODES[opcode].name);
         }
+        let [passed, refused] = self.border;
+        println!("  {:<11}{passed:>9}{refused:>9}", "registers");
+        let [last, past] = self.at_border.each_ref().map(BTreeSet::len);
+        println!("opcodes that name the last register: {last}, the one behind it: {past}");
         println!(
             "prefixes and opcodes behind them in files that pass: {}",
             self.behind.len()
         );
     }
+}
+
+/// Whether an instruction needs so many registers more than its record has, and needs one at all.
+fn is_at_border(record: &Record, step: &Step, more: u32) -> bool {
+    let needed = needed_by_step(step);
+    needed > 0 && needed == record.nregs + more
 }
 
 /// Holds every subject against the model on one file; answers the numbers over tables that fit and over other sizes.

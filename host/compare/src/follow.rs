@@ -2,12 +2,13 @@
 
 use crate::Stop;
 use crate::args::Args;
+use crate::chosen;
 use crate::examine::NOT_PASSING;
 use crate::generate::{Generator, steps};
 use crate::load::{ANSWERS, at_work, corpus, difference, garbage, hex, other_sizes, watch};
 use crate::prefixes::PREFIXES;
 use crate::rng::Rng;
-use crate::subject::{Model, Subject, first_difference, subjects};
+use crate::subject::{Follow, Model, Subject, first_difference, subjects};
 use model::{OPCODES, Refusal, Rows, Sizes, Step};
 use std::collections::BTreeMap;
 
@@ -78,8 +79,9 @@ pub fn compare(args: &Args) -> Result<(), Stop> {
                 .map_err(|why| difference(name, file, &why))?;
         }
     }
+    let chosen = chosen_runs(&subjects, seed)?;
     println!(
-        "seed {seed}, {} corpus files, {files} generated",
+        "seed {seed}, {} corpus files, {chosen} chosen runs with their answers, {files} files generated",
         corpus.len()
     );
     let generator = Generator {
@@ -119,6 +121,29 @@ pub fn compare(args: &Args) -> Result<(), Stop> {
         counts.at_prefix
     );
     Ok(())
+}
+
+/// Holds every subject against the model on chosen runs, and the model against their answers; how many they are.
+fn chosen_runs(subjects: &[Box<dyn Subject>], seed: u64) -> Result<usize, Stop> {
+    let mut number = 0;
+    for group in chosen::groups() {
+        for (file, runs) in &group.followed {
+            at_work(file);
+            let used = model::read(file, [usize::MAX; 9]).rows.used();
+            let sizes = Sizes::of_rows(used);
+            for (choices, right) in runs {
+                let mut rng = Rng::new(seed, u64::MAX / 2 + number as u64);
+                let held = as_model(subjects, file, &sizes, 2 * used[0], choices, &mut rng);
+                let wrong = |why: String| difference(group.name, file, &why);
+                let (answer, _) = held.map_err(wrong)?;
+                if (answer.refusal, answer.numbers) != (0, *right) {
+                    return Err(wrong(format!("the answer is {answer:?}, not {right:?}")));
+                }
+                number += 1;
+            }
+        }
+    }
+    Ok(number)
 }
 
 /// A list of choices: none, valid, long, cut, or with a kind above 4.
@@ -219,6 +244,45 @@ fn step_of(file: &[u8], rows: &Rows, record: u32, is_such: impl Fn(&Step) -> boo
     found.expect("a frame stands at an instruction, and behind one if it was entered from")
 }
 
+/// Holds every subject against the model on one run; the model's answer, and its frames.
+fn as_model(
+    subjects: &[Box<dyn Subject>],
+    file: &[u8],
+    sizes: &Sizes,
+    words: usize,
+    choices: &[u8],
+    rng: &mut Rng,
+) -> Result<(Follow, Vec<u32>), String> {
+    // The cases do not depend on how many subjects there are.
+    let rng = &mut Rng::new(rng.next(), 0);
+    let mut right_tables = garbage(sizes, rng);
+    let mut right_frames = vec![rng.word() | 1; words];
+    let right = Model.follow(file, &mut right_tables, &mut right_frames, choices);
+    for subject in subjects {
+        let mut tables = garbage(sizes, rng);
+        let mut frames = vec![rng.word() | 1; words];
+        let answer = subject.follow(file, &mut tables, &mut frames, choices);
+        let what = format!(
+            "over {:?} and {words} words along {} {}",
+            sizes.0,
+            hex(choices),
+            subject.name()
+        );
+        if answer != right {
+            return Err(format!("{what} answers {answer:?}, the model {right:?}"));
+        }
+        if let Some(difference) = first_difference(&tables, &right_tables) {
+            return Err(format!("{what} and the model: {difference}"));
+        }
+        if frames != right_frames {
+            return Err(format!(
+                "{what} leaves frames {frames:?}, the model {right_frames:?}"
+            ));
+        }
+    }
+    Ok((right, right_frames))
+}
+
 /// Holds every subject against the model on one file, over some choices, sizes and frame table.
 fn one(
     subjects: &[Box<dyn Subject>],
@@ -236,33 +300,7 @@ fn one(
     };
     let words = frame_words(needed[0], rng);
     let choices = choices_of(file, &sizes, words, rng);
-    // The cases do not depend on how many subjects there are.
-    let rng = &mut Rng::new(rng.next(), 0);
-    let mut right_tables = garbage(&sizes, rng);
-    let mut right_frames = vec![rng.word() | 1; words];
-    let right = Model.follow(file, &mut right_tables, &mut right_frames, &choices);
-    for subject in subjects {
-        let mut tables = garbage(&sizes, rng);
-        let mut frames = vec![rng.word() | 1; words];
-        let answer = subject.follow(file, &mut tables, &mut frames, &choices);
-        let what = format!(
-            "over {:?} and {words} words along {} {}",
-            sizes.0,
-            hex(&choices),
-            subject.name()
-        );
-        if answer != right {
-            return Err(format!("{what} answers {answer:?}, the model {right:?}"));
-        }
-        if let Some(difference) = first_difference(&tables, &right_tables) {
-            return Err(format!("{what} and the model: {difference}"));
-        }
-        if frames != right_frames {
-            return Err(format!(
-                "{what} leaves frames {frames:?}, the model {right_frames:?}"
-            ));
-        }
-    }
+    let (right, right_frames) = as_model(subjects, file, &sizes, words, &choices, rng)?;
     let [finished, record, offset, found, _, frames] = right.numbers;
     counts.runs += 1;
     *counts.by_number.entry(right.refusal).or_default() += 1;

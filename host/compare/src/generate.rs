@@ -2,6 +2,7 @@
 
 use crate::newer::{CHILD_THIRD, NEWER};
 use crate::prefixes::{PREFIXES, instruction, size, widths};
+use crate::registers::{BESIDE_OPERANDS, counting, first_register, needed};
 use crate::rng::Rng;
 use crate::sample::{self, BARE, STOP};
 use model::{Flow, HEADER, OPCODES, Record, Role, Rows, Step, bound, flow, roles};
@@ -225,7 +226,11 @@ fn seen(file: &[u8]) -> Vec<Seen> {
 
 /// The instructions of a record, as far as they are whole.
 pub fn steps(file: &[u8], record: &Record) -> Vec<Step> {
-    let code = &file[record.place as usize..][..record.ilen as usize];
+    steps_of(&file[record.place as usize..][..record.ilen as usize])
+}
+
+/// The instructions of a code, as far as they are whole.
+fn steps_of(code: &[u8]) -> Vec<Step> {
     let mut steps = Vec::new();
     let mut offset = 0;
     while let Ok(step) = model::step_at(code, offset) {
@@ -238,6 +243,26 @@ pub fn steps(file: &[u8], record: &Record) -> Vec<Step> {
 /// The place in the file of an instruction's opcode, which stands behind its prefix.
 fn opcode_place(record: &Record, step: &Step) -> usize {
     record.place as usize + step.offset + usize::from(step.prefix.is_some())
+}
+
+/// How many registers a record needs for these instructions.
+fn needed_by(steps: &[Step]) -> usize {
+    let needed = steps.iter().map(needed_by_step).max();
+    needed.unwrap_or(0) as usize
+}
+
+/// How many registers a record needs for an instruction.
+pub fn needed_by_step(step: &Step) -> u32 {
+    needed(step.opcode as u8, &step.operands)
+}
+
+/// Writes a number for an operand of an instruction, its low byte where it has one byte.
+fn write_operand(file: &mut [u8], record: &Record, step: &Step, operand: usize, number: u16) {
+    let widths = widths(step.prefix, OPCODES[step.opcode].kind);
+    let before: usize = widths[..operand].iter().sum();
+    let at = opcode_place(record, step) + 1 + before;
+    let width = widths[operand];
+    file[at..at + width].copy_from_slice(&number.to_be_bytes()[2 - width..]);
 }
 
 /// Those instructions that jump.
@@ -452,7 +477,10 @@ impl Maker {
         };
         let fits = |opcode: usize| {
             let has_rows = |role: &Role| *role == Role::Plain || bound(*role) > 0;
-            !PREFIXES.contains(&(opcode as u8)) && roles(&OPCODES[opcode]).iter().all(has_rows)
+            let registers = needed(opcode as u8, &[]) as usize;
+            !PREFIXES.contains(&(opcode as u8))
+                && roles(&OPCODES[opcode]).iter().all(has_rows)
+                && registers <= bound(Role::Register)
         };
         // Where children are many the first steps can enter all of them.
         let entries = if self.sound && bound(Role::Child) > NARROW {
@@ -465,6 +493,9 @@ impl Maker {
             let mut opcode = self.rng.below(OPCODES.len());
             if self.sound && self.rng.one_in(2) {
                 let mut often = self.rng.pick(&[&JUMPS[..], &CHILD_SECOND, &NEWER]);
+                if self.rng.one_in(6) {
+                    often = &BESIDE_OPERANDS;
+                }
                 for (role, opcodes) in [
                     (Role::Child, &CHILD_SECOND[..]),
                     (Role::Pool, &WITH_CONSTANT),
@@ -514,6 +545,7 @@ impl Maker {
                 let distance = self.rng.pick(&begins).wrapping_sub(next);
                 *operands.last_mut().unwrap() = u32::from(distance as u16);
             }
+            self.name_below(opcode as u8, &mut operands, bound(Role::Register) as u32);
             code.extend(instruction(prefix, opcode as u8, &operands));
         }
         debug_assert_eq!(code.len(), length);
@@ -532,6 +564,41 @@ impl Maker {
             1 if end > NARROW => self.rng.between(NARROW - 1, end - 1) as u32,
             _ => self.rng.below(end) as u32,
         }
+    }
+
+    /// Lowers an instruction's operands until it names registers below a bound alone, most of the time as little as it takes.
+    fn name_below(&mut self, opcode: u8, operands: &mut [u32], bound: u32) {
+        let counts = counting(opcode);
+        if let Some(counts) = counts
+            && !self.rng.one_in(4)
+        {
+            operands[counts] = self.few_registers();
+        }
+        let roles = roles(&OPCODES[usize::from(opcode)]);
+        loop {
+            let past = needed(opcode, operands).saturating_sub(bound);
+            if past == 0 {
+                return;
+            }
+            let mut lowered: Vec<usize> = (0..operands.len())
+                .filter(|at| roles[*at] == Role::Register || counts == Some(*at))
+                .filter(|at| operands[*at] > 0)
+                .collect();
+            let first = first_register(opcode);
+            if operands[first] >= past && !self.rng.one_in(4) {
+                lowered = vec![first];
+            }
+            let operand = &mut operands[self.rng.pick(&lowered)];
+            *operand = operand.saturating_sub(past);
+        }
+    }
+
+    /// How many registers an instruction names, or both numbers of a send's arguments, which are 15 now and then.
+    fn few_registers(&mut self) -> u32 {
+        if self.rng.one_in(2) {
+            return self.small(10) as u32;
+        }
+        self.rng.pick(&[0, 1, 2, 14, 15]) + 16 * self.rng.pick(&[0, 0, 1, 2, 15])
     }
 
     fn handler(&mut self) -> Vec<u8> {
@@ -590,6 +657,11 @@ impl Maker {
                 Role::Symbol => symbols,
                 Role::Child => rlen,
             }),
+        };
+        let nregs = if self.sound && self.rng.one_in(3) {
+            needed_by(&steps_of(&code))
+        } else {
+            nregs
         };
         let mut body = Vec::new();
         body.extend(be2(nlocals));
@@ -1408,7 +1480,7 @@ impl Maker {
         };
         let last = opcode_place(&record, last);
         let step = self.rng.pick(&steps);
-        match self.rng.below(24) {
+        match self.rng.below(36) {
             0 => {
                 // The number of children.
                 let rlen = record.rlen as usize + self.rng.pick(&[1, 2, 65_535, 65_534]);
@@ -1444,44 +1516,97 @@ impl Maker {
                 let at = place + self.rng.below(ilen);
                 file[at] = self.rng.byte();
             }
-            14..=17 => self.flaw_newer(file, &reading.rows),
-            18..=21 => self.flaw_prefix(file, &reading.rows),
+            14..=18 => self.flaw_newer(file, &reading.rows),
+            19..=24 => self.flaw_prefix(file, &reading.rows),
+            25 | 26 => {
+                // The number of registers: one less than the instructions need, two less, or just enough.
+                let less = self.rng.pick(&[1, 1, 1, 2, 0]);
+                let registers = needed_by(&steps).saturating_sub(less);
+                file[place - 10..place - 8].copy_from_slice(&be2(registers));
+            }
+            27..=33 => self.flaw_range(file, &reading.rows),
             _ => self.flaw_map(file),
+        }
+    }
+
+    /// An instruction that names registers beside its operands, in any record: where they begin, or how many they are.
+    fn flaw_range(&mut self, file: &mut [u8], rows: &Rows) {
+        let beside = self.any_step(file, rows, |step| BESIDE_OPERANDS.contains(&step.opcode));
+        let Some((record, step)) = beside else {
+            return;
+        };
+        match counting(step.opcode as u8) {
+            Some(operand) if self.rng.one_in(2) => {
+                let number = self.other_count(step.operands[operand] as u16);
+                write_operand(file, &record, &step, operand, number);
+            }
+            _ => self.flaw_first(file, &record, &step),
+        }
+    }
+
+    /// Lets the registers that an instruction names begin where the last of them is one behind the record's last, two behind it, or just it.
+    fn flaw_first(&mut self, file: &mut [u8], record: &Record, step: &Step) {
+        let operand = first_register(step.opcode as u8);
+        let registers = record.nregs + self.rng.pick(&[1, 1, 1, 2, 0]);
+        let first = (step.operands[operand] + registers).saturating_sub(needed_by_step(step));
+        let most = match widths(step.prefix, OPCODES[step.opcode].kind)[operand] {
+            1 => 255,
+            _ => 65_535,
+        };
+        write_operand(file, record, step, operand, first.min(most) as u16);
+    }
+
+    /// Another number of registers: one less or more, with 15 or 0 for one of a send's numbers, or with another highest bit.
+    fn other_count(&mut self, number: u16) -> u16 {
+        match self.rng.below(8) {
+            0 => number | 15,
+            1 => number | 240,
+            2 => number & !15,
+            3 => number & !240,
+            4 => number ^ 16,
+            5 => number ^ 32_768,
+            _ => number.wrapping_add(self.rng.pick(&[1, u16::MAX])),
         }
     }
 
     /// An operand of a newer opcode in any record, of TDEF and SDEF half of the time.
     fn flaw_newer(&mut self, file: &mut [u8], rows: &Rows) {
         let opcodes = self.rng.pick(&[&NEWER[..], &CHILD_THIRD]);
-        let newer: Vec<(Record, Step)> = all_steps(file, rows)
-            .filter(|(_, step)| opcodes.contains(&step.opcode))
-            .map(|(record, step)| (*record, step))
-            .collect();
-        if !newer.is_empty() {
-            let (record, step) = self.rng.pick(&newer);
+        let newer = self.any_step(file, rows, |step| opcodes.contains(&step.opcode));
+        if let Some((record, step)) = newer {
             self.flaw_operand(file, &record, &step);
         }
     }
 
-    /// A prefix in any record: another or none, what stands behind it, what leads to that, or a prefix that is last.
-    fn flaw_prefix(&mut self, file: &mut [u8], rows: &Rows) {
-        let prefixed: Vec<(Record, Step)> = all_steps(file, rows)
-            .filter(|(_, step)| step.prefix.is_some())
+    /// One of the instructions of a file that are such, with its record.
+    fn any_step(
+        &mut self,
+        file: &[u8],
+        rows: &Rows,
+        is_such: impl Fn(&Step) -> bool,
+    ) -> Option<(Record, Step)> {
+        let such: Vec<(Record, Step)> = all_steps(file, rows)
+            .filter(|(_, step)| is_such(step))
             .map(|(record, step)| (*record, step))
             .collect();
-        if prefixed.is_empty() {
+        (!such.is_empty()).then(|| self.rng.pick(&such))
+    }
+
+    /// A prefix in any record: another or none, what stands behind it, what leads to that, or a prefix that is last.
+    fn flaw_prefix(&mut self, file: &mut [u8], rows: &Rows) {
+        let prefixed = self.any_step(file, rows, |step| step.prefix.is_some());
+        let Some((record, step)) = prefixed else {
             return;
-        }
-        let (record, step) = self.rng.pick(&prefixed);
+        };
         let opcode = opcode_place(&record, &step);
-        match self.rng.below(10) {
+        match self.rng.below(11) {
             0 => file[opcode - 1] = self.rng.pick(&PREFIXES),
             1 => file[opcode - 1] = 0,
             2 => file[opcode] = self.rng.pick(&PREFIXES),
             3 => file[opcode] = self.rng.pick(&[119, 120, 127, 128, 255]),
             4 => file[opcode] = self.rng.below(119) as u8,
-            5 => file[(record.place + record.ilen) as usize - 1] = self.rng.pick(&PREFIXES),
-            6 | 7 => self.lead_somewhere(file, &record, step.offset + 1),
+            5 | 6 => file[(record.place + record.ilen) as usize - 1] = self.rng.pick(&PREFIXES),
+            7 | 8 => self.lead_somewhere(file, &record, step.offset + 1),
             _ => self.flaw_operand(file, &record, &step),
         }
     }
@@ -1517,16 +1642,13 @@ impl Maker {
         };
         let bound = bound(role, record).unwrap_or(0);
         let number = (bound + self.rng.pick(&[0, 0, 1])).saturating_sub(self.rng.pick(&[0, 0, 1]));
-        let widths = widths(step.prefix, row.kind);
-        let before: usize = widths[..operand].iter().sum();
-        let at = opcode_place(record, step) + 1 + before;
-        if widths[operand] == 1 {
+        let number = number.min(65_535) as u16;
+        let number = match widths(step.prefix, row.kind)[operand] {
             // An operand of one byte does not reach a higher bound.
-            file[at] = number.min(255) as u8;
-        } else {
-            let number = self.other_wide(number.min(65_535) as u16);
-            file[at..at + 2].copy_from_slice(&number.to_be_bytes());
-        }
+            1 => number.min(255),
+            _ => self.other_wide(number),
+        };
+        write_operand(file, record, step, operand, number);
     }
 
     /// A number of two bytes: this one, or now and then one with its bytes exchanged or with another high byte.
@@ -1655,7 +1777,7 @@ impl Maker {
 }
 
 #[cfg(test)]
-mod tests {
+pub mod tests {
     use super::*;
     use crate::held::is_string;
     use std::collections::BTreeSet;
@@ -1716,8 +1838,8 @@ mod tests {
         }
     }
 
-    /// Files that load and pass or meet 17, with their rows and whether they meet it.
-    fn passing_or_17(number: u64) -> Vec<(Vec<u8>, Rows, bool)> {
+    /// Generated files that pass or meet 17, with their rows and whether they meet it.
+    pub fn passing_or_17(number: u64) -> Vec<(Vec<u8>, Rows, bool)> {
         let generator = generator();
         let files = (0..number).map(|index| generator.examinable(1, index));
         let answered = files.filter_map(|file| {
@@ -1729,17 +1851,21 @@ mod tests {
         answered.collect()
     }
 
-    /// Whether an operand of a file is not below its bound, where one opcode has these roles.
+    /// Whether a file meets 17 where one opcode has these roles, and names no register beside its operands.
     fn meets_17(file: &[u8], rows: &Rows, opcode: usize, other: [Role; 3]) -> bool {
         all_steps(file, rows).any(|(record, step)| {
-            let roles = if step.opcode == opcode {
-                other
-            } else {
-                roles(&OPCODES[step.opcode])
-            };
-            let mut held = step.operands.into_iter().zip(roles);
-            held.any(|(operand, role)| bound(role, record).is_some_and(|bound| operand >= bound))
+            if step.opcode == opcode {
+                return past_counts(record, &step, other);
+            }
+            let roles = roles(&OPCODES[step.opcode]);
+            past_counts(record, &step, roles) || needed_by_step(&step) > record.nregs
         })
+    }
+
+    /// Whether an operand of an instruction is not below its count by these roles.
+    pub fn past_counts(record: &Record, step: &Step, roles: [Role; 3]) -> bool {
+        let mut held = step.operands.into_iter().zip(roles);
+        held.any(|(operand, role)| bound(role, record).is_some_and(|bound| operand >= bound))
     }
 
     /// The roles of an opcode with another one for one operand behind the first.

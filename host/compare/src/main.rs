@@ -3,6 +3,7 @@
 mod args;
 #[cfg(feature = "port")]
 mod bench;
+mod chosen;
 mod examine;
 mod expected;
 mod fetch;
@@ -18,6 +19,7 @@ mod oracle;
 mod port;
 mod prefixes;
 mod quiet;
+mod registers;
 mod rng;
 mod sample;
 mod store;
@@ -34,8 +36,8 @@ compare file PATH..                           these files
 compare fetch [--seed S]                      every first byte with every length
 compare line [--maps N] [--seed S]            maps and positions, falling ones too
 compare lookup [--tables N] [--seed S]        lookups in the tables of loads and in any tables
-compare examine [--files N] [--seed S]        examinations of the corpus and of generated files
-compare follow [--files N] [--seed S]         runs along any choices
+compare examine [--files N] [--seed S]        examinations of the corpus, of chosen and of generated files
+compare follow [--files N] [--seed S]         chosen runs, and runs along any choices
 compare store --seed S --count N --calls FILE --lookups FILE
                                               writes stored reference answers
 compare replay PATH..                         replays stored reference answers

@@ -1,5 +1,6 @@
 //! Files with opcodes that insn.rs does not comment, and the answers of request c) of paper 02.
 
+use crate::chosen::Group;
 use crate::sample::{Counts, Examined, FINISHED, Run, STOP};
 use crate::sample::{bare_record, coded, file, record, stands_at};
 
@@ -66,8 +67,17 @@ fn limits(counts: Counts) -> [(u8, Vec<Option<u16>>); 9] {
     ]
 }
 
+/// The files and runs with their answers.
+pub fn group() -> Group {
+    Group {
+        name: "newer opcodes, examined and followed",
+        examined: examined(),
+        followed: vec![followed()],
+    }
+}
+
 /// Files with one of these instructions, and the answers of their examination.
-pub fn examined() -> Vec<Examined> {
+fn examined() -> Vec<Examined> {
     let inside = COUNTS.into_iter().flat_map(|counts| {
         let limits = limits(counts).into_iter();
         limits.flat_map(move |(opcode, limits)| around(opcode, &limits, counts))
@@ -127,7 +137,7 @@ fn nested() -> Vec<u8> {
 }
 
 /// A file with TDEF and SDEF and runs that enter through them: "TDEF and SDEF can be entered like METHOD."
-pub fn followed() -> (Vec<u8>, Vec<Run>) {
+fn followed() -> (Vec<u8>, Vec<Run>) {
     let at = stands_at;
     let runs = [
         // TDEF: its child is the last, with number rlen - 1.
@@ -153,7 +163,7 @@ pub fn followed() -> (Vec<u8>, Vec<Run>) {
 #[cfg(test)]
 mod tests {
     use super::*;
-    use model::{OPCODES, Sizes};
+    use model::OPCODES;
 
     #[test]
     fn opcodes_have_their_names() {
@@ -162,15 +172,5 @@ mod tests {
         let others = [MATCHERR, BLKCALL, ADDILV, SUBILV, STOP];
         let names = others.map(|opcode| OPCODES[usize::from(opcode)].name);
         assert_eq!(names, ["MATCHERR", "BLKCALL", "ADDILV", "SUBILV", "STOP"]);
-    }
-
-    #[test]
-    fn files_load_and_have_their_answers() {
-        for (file, refusal) in examined() {
-            let reading = model::read(&file, [usize::MAX; 9]);
-            assert_eq!(reading.end, Ok(()));
-            let lent = Sizes::of_rows(reading.rows.used());
-            assert_eq!(model::examine(&file, &lent).refusal, refusal);
-        }
     }
 }

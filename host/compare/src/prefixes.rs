@@ -1,6 +1,8 @@
 //! Files with instructions behind prefixes, and the answers of request b) of paper 02.
 
+use crate::chosen::Group;
 use crate::generate::{be2, be4, exact};
+use crate::registers::{counting, needed};
 use crate::sample::{Counts, Examined, FINISHED, Run, STOP};
 use crate::sample::{bare_record, coded, file, record, stands_at, with_children};
 use model::{Flow, Kind, OPCODES, Refusal, Role, flow, roles};
@@ -13,7 +15,7 @@ const EXT3: u8 = 117;
 pub const PREFIXES: [u8; 3] = [EXT1, EXT2, EXT3];
 
 /// Kinds of choices; behind that of caught stands a handler's number.
-const GO_ON: u8 = 0;
+pub const GO_ON: u8 = 0;
 const JUMP: u8 = 1;
 const ENTER: u8 = 2;
 const CAUGHT: u8 = 3;
@@ -60,13 +62,13 @@ fn kind(opcode: u8) -> Kind {
 }
 
 /// The opcode of a name.
-fn named(name: &str) -> u8 {
+pub fn named(name: &str) -> u8 {
     let position = OPCODES.iter().position(|opcode| opcode.name == name);
     position.expect("an opcode has this name") as u8
 }
 
 /// The opcodes that can stand behind a prefix.
-fn opcodes() -> impl Iterator<Item = u8> {
+pub fn opcodes() -> impl Iterator<Item = u8> {
     let all = 0..OPCODES.len() as u8;
     all.filter(|opcode| !PREFIXES.contains(opcode))
 }
@@ -79,25 +81,13 @@ fn pairs(names: &[&str]) -> Vec<(u8, u8)> {
         .collect()
 }
 
-/// The files and runs of a name.
-pub struct Group {
-    pub name: &'static str,
-    pub examined: Vec<Examined>,
-    pub followed: Vec<(Vec<u8>, Vec<Run>)>,
-}
-
 /// All files and runs with their answers.
 pub fn groups() -> Vec<Group> {
-    let examined = |name, examined| Group {
-        name,
-        examined,
-        followed: Vec::new(),
-    };
     vec![
         every_opcode(),
-        examined("operands behind prefixes, examined", operands()),
-        examined("prefixes that are read with 16 or 25, examined", readings()),
-        examined("jumps and handlers at prefixes, examined", targets()),
+        Group::examined("operands behind prefixes, examined", operands()),
+        Group::examined("prefixes that are read with 16 or 25, examined", readings()),
+        Group::examined("jumps and handlers at prefixes, examined", targets()),
         above_255(),
         runs(),
     ]
@@ -132,7 +122,22 @@ fn largest(prefix: Option<u8>, opcode: u8, counts: Counts) -> Vec<u8> {
     if let (Flow::Jump | Flow::MayJump, Some(distance)) = (flow(row), operands.last_mut()) {
         *distance = 0;
     }
+    name_below(opcode, &mut operands, counts.registers.into());
     instruction(prefix, opcode, &operands)
+}
+
+/// Lowers an instruction's operands until it names registers below their number alone: what counts them to half of it, then all registers alike.
+fn name_below(opcode: u8, operands: &mut [u32], registers: u32) {
+    if let Some(operand) = counting(opcode) {
+        operands[operand] = operands[operand].min(registers / 2);
+    }
+    let past = needed(opcode, operands).saturating_sub(registers);
+    let roles = roles(&OPCODES[usize::from(opcode)]);
+    for (operand, role) in operands.iter_mut().zip(roles) {
+        if role == Role::Register {
+            *operand = operand.saturating_sub(past);
+        }
+    }
 }
 
 /// Code with every opcode behind a prefix: first those that do not end, then a STOP, then those that end.
@@ -614,26 +619,6 @@ fn runs() -> Group {
 mod tests {
     use super::*;
     use crate::fetch;
-    use model::Sizes;
-
-    /// The answer of a file's examination over tables that fit.
-    fn answer(file: &[u8]) -> Refusal {
-        let reading = model::read(file, [usize::MAX; 9]);
-        assert_eq!(reading.end, Ok(()));
-        model::examine(file, &Sizes::of_rows(reading.rows.used())).refusal
-    }
-
-    #[test]
-    fn files_load_and_have_their_answers() {
-        for group in groups() {
-            for (number, (file, refusal)) in group.examined.iter().enumerate() {
-                assert_eq!(answer(file), *refusal, "{} {number}", group.name);
-            }
-            for (file, _) in group.followed {
-                assert_eq!(answer(&file), 0, "{}", group.name);
-            }
-        }
-    }
 
     #[test]
     fn operands_that_fit_are_the_originals_without_the_prefix() {

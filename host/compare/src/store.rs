@@ -38,6 +38,7 @@
 
 use crate::Stop;
 use crate::args::Args;
+use crate::chosen;
 use crate::examine::NOT_PASSING;
 use crate::expected;
 use crate::fetch;
@@ -47,9 +48,7 @@ use crate::held::Held;
 use crate::lines;
 use crate::load::{ANSWERS, Counts, corpus, garbage, one, other_sizes};
 use crate::lookups;
-use crate::newer;
 use crate::oracle::{self, NO_ROW, Outcome, TOO_LONG};
-use crate::prefixes;
 use crate::rng::Rng;
 use crate::sample::{Examined, FINISHED, Run, stands_at};
 use crate::subject::{Answer, Fetch, Follow, Found, LOOKUPS, Lookup, Model, Subject, subjects};
@@ -84,8 +83,7 @@ pub fn write(args: &Args) -> Result<(), Stop> {
     let mut counts = Counts::default();
     let mut calls = Store::default();
     samples(&mut calls).map_err(Stop::Difference)?;
-    newer_samples(&mut calls).map_err(Stop::Difference)?;
-    prefix_samples(&mut calls).map_err(Stop::Difference)?;
+    chosen_samples(&mut calls).map_err(Stop::Difference)?;
     loads(&mut calls, seed, count as usize, &mut counts).map_err(Stop::Difference)?;
     examinable_files(&mut calls, seed)?;
     let mut lookups = Store::default();
@@ -317,18 +315,9 @@ fn of_records(records: u32) -> [u32; 9] {
     [records, 0, 0, 0, 0, 0, 0, 0, 0]
 }
 
-/// Files with the newer opcodes, examined and followed, with the answers of request c).
-fn newer_samples(store: &mut Store) -> Result<(), String> {
-    sample_examinations(store, &newer::examined())?;
-    let (file, runs) = newer::followed();
-    sample_runs(store, &file, &runs)?;
-    store.bytes(6, b"newer opcodes, examined and followed");
-    Ok(())
-}
-
-/// Files with instructions behind prefixes, with the answers of request b).
-fn prefix_samples(store: &mut Store) -> Result<(), String> {
-    for group in prefixes::groups() {
+/// Chosen files, examined and followed, with the answers of requests c), b) and j).
+fn chosen_samples(store: &mut Store) -> Result<(), String> {
+    for group in chosen::groups() {
         let wrong = |why: String| format!("{}: {why}", group.name);
         sample_examinations(store, &group.examined).map_err(wrong)?;
         for (file, runs) in &group.followed {

@@ -5,6 +5,9 @@ use std::panic::catch_unwind;
 
 include!(concat!(env!("OUT_DIR"), "/original.rs"));
 
+/// The text of insn.rs, whose comments name registers.
+pub const INSN: &str = include_str!(env!("ORIGINAL_insn"));
+
 /// The errors that the sources name.
 #[derive(Debug, Clone, PartialEq, Eq)]
 pub enum Error {
