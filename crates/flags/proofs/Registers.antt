@@ -2,7 +2,6 @@
 -- Assumes nothing.
 use Prim.Native.Nat.{ℕ, zero, suc, _+_, _-_, _*_, _/_, _≤_, _<_}
 use native.Mathlib.Omega.{arith}
-use native.Mathlib.Nat.{zero-mul, one-mul, mul-comm, zero-add, add-zero}
 use mathlib.Core.Path.{_≡_, refl, sym, ap, _∙_}
 use mathlib.Core.Bool.{Bool, true, false, _&&_, _||_}
 use mathlib.Core.List.{List}
@@ -13,7 +12,7 @@ use Rattle.format.specs.Bytes.{byte}
 use Rattle.format.specs.Insn.{Kind, Z, BB, B, BS, BSS, BBB, S, W, Role, reg, pool, sym as symbol, child, plain, Row, fieldsBy, name, kind, table, row, firstWidth, secondWidth, operand, operands, opcode, rowAt}
 use Rattle.format.specs.Sizes.{kindNumber, among, haveFirst, haveSecond}
 use Rattle.format.specs.Registers.{Form, own, pair, triple, send, sendb, super, array, array2, push, post, hash, hashadd}
-use Rattle.format.specs.Registers.{Range, range, arguments, named, comments, form}
+use Rattle.format.specs.Registers.{range, arguments, named, comments, form}
 use Rattle.format.specs.Pattern.{Record}
 use Rattle.format.specs.Exam.{below, rangeBelow, bounded}
 use Rattle.format.proofs.Table.{both, by-test}

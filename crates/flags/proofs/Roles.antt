@@ -1,19 +1,19 @@
 -- 17 at an instruction by the digits of its opcode; and its flag.
 -- Assumes nothing.
-use Prim.Native.Nat.{ℕ, _+_, _<_}
+use Prim.Native.Nat.{ℕ, _+_}
 use native.Mathlib.Omega.{arith}
-use mathlib.Core.Path.{_≡_, refl, sym, ap, _∙_}
-use mathlib.Core.Bool.{Bool, true, false, _&&_}
+use mathlib.Core.Path.{_≡_, _∙_}
+use mathlib.Core.Bool.{Bool, true, false}
 use mathlib.Core.List.{List}
-use lib.Dec.{T, ltb, leb}
-use lib.ListN.{length, getD}
+use lib.Dec.{ltb}
+use lib.ListN.{length}
 use Rattle.format.specs.Bytes.{byte}
 use Rattle.format.specs.Insn.{prefix, firstWidth, secondWidth, operand, opcode, rowAt, next}
 use Rattle.format.specs.Exam.{bounded}
 use Rattle.format.proofs.Prefix.{no-first, no-second}
-use Rattle.runs.specs.Places.{firstPlace, secondPlace, thirdPlace}
+use Rattle.runs.specs.Places.{firstPlace}
 use Rattle.opcode.specs.Digits.{secondRole, thirdRole}
-use Rattle.opcode.proofs.Numbers.{role-small, first-small, few, first-digit, second-digit, third-digit, form-digits, inside-digit, last-digit}
+use Rattle.opcode.proofs.Numbers.{role-small, first-small, few, first-digit, second-digit, third-digit, inside-digit, last-digit}
 use Rattle.flags.specs.Flags.{Limits, bare, Looked, Numbered, belowBy, flagAt, flagBy}
 use Rattle.flags.proofs.Registers.{bounded-by}
 

@@ -5,11 +5,10 @@ use native.Mathlib.Omega.{arith}
 use mathlib.Core.Path.{_≡_, refl, sym, subst}
 use mathlib.Core.Logic.{_⊎_, inl, inr, _↔_}
 use mathlib.Core.Bool.{Bool, true, false, _&&_, not, cond}
-use mathlib.Core.List.{List}
-use lib.Dec.{T, T-not, eqb}
+use lib.Dec.{T, eqb}
 use lib.ListN.{length, getD}
-use Rattle.format.specs.Insn.{reg, plain, name, roles, rowAt, operandsAt}
-use Rattle.format.specs.Registers.{Form, own, pair, triple, send, sendb, super, array, array2, push, post, hash, hashadd, Range, range, counted, arguments, named}
+use Rattle.format.specs.Insn.{plain, name, roles, rowAt, operandsAt}
+use Rattle.format.specs.Registers.{Form, own, pair, triple, send, sendb, super, array, array2, push, post, hash, hashadd, counted, arguments, named}
 use Rattle.format.specs.Registers.{form, Names}
 use Rattle.format.specs.Pattern.{Record}
 use Rattle.format.specs.Exam.{Below, operandsBelow, rangeBelow, bounded, HighOperand, HighRegister}

@@ -1,7 +1,6 @@
 -- Operands that have a role, by their places behind the opcode: what 17 tests there, and the child that they number.
 -- Assumes nothing.
-use Prim.Native.Nat.{ℕ, zero, suc, _+_, _≤_, _<_, suc-le-suc}
-use native.Mathlib.Omega.{arith}
+use Prim.Native.Nat.{ℕ, _+_}
 use mathlib.Core.Path.{_≡_, refl, sym, ap, _∙_}
 use mathlib.Core.Logic.{_⊎_, inl, inr}
 use mathlib.Core.Bool.{Bool, true, false, _&&_, _||_, not, cond}
@@ -9,16 +8,15 @@ use mathlib.Core.Option.{Option, none, some}
 use mathlib.Core.List.{List, [], _∷_}
 use lib.Dec.{T, eqb, eqb→eq}
 use lib.Ieee.Bits.{is-false}
-use lib.ListN.{length, getD}
+use lib.ListN.{getD}
 use Rattle.format.specs.Bytes.{byte}
-use Rattle.format.specs.Insn.{Kind, Z, BB, B, BS, BSS, BBB, S, W, Role, reg, pool, sym as symbol, child, plain, Row, fieldsBy, fields, width, kind, roles, table, row}
-use Rattle.format.specs.Insn.{prefix, widensFirst, widensSecond, firstWidth, secondWidth, operand, operands, opcode, rowAt, fieldsAt, operandsAt}
+use Rattle.format.specs.Insn.{Role, reg, pool, sym as symbol, child, plain, Row, fieldsBy, kind, roles, table, row}
+use Rattle.format.specs.Insn.{widensFirst, widensSecond, firstWidth, secondWidth, operand, operands, opcode, rowAt, fieldsAt, operandsAt}
 use Rattle.format.specs.Pattern.{Record}
 use Rattle.format.specs.Exam.{below, allBelow, operandsBelow}
 use Rattle.format.specs.Run.{isChild, childOperand}
 use Rattle.runs.specs.Places.{firstPlace, secondPlace, thirdPlace}
-use Rattle.format.proofs.Table.{both, by-test, roles-length}
-use Rattle.format.proofs.Prefix.{no-first, no-second}
+use Rattle.format.proofs.Table.{both, by-test}
 
 unfoldable pub numbers : Role → Bool
 numbers reg = true

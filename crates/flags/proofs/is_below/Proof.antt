@@ -1,6 +1,5 @@
 -- `flags::is_below` meets its contract.
 -- Assumes nothing.
-use native.Mathlib.Omega.{arith}
 use Rattle.flags.proofs.Registers.{limit-told}
 use borrow.Author.Needs.{needs}
 use Rattle.flags.proofs.is_below.Statement.{statement}

@@ -1,10 +1,9 @@
 -- `flags::operands_below` meets its contract.
 -- Assumes nothing.
-use native.Mathlib.Omega.{arith}
 use mathlib.Core.Bool.{true}
 use mathlib.Core.Path.{_≡_, sym, _∙_}
 use borrow.Author.Tests.{not-true, not-false}
-use Rattle.opcode.specs.Digits.{firstIn, secondIn, thirdIn}
+use Rattle.opcode.specs.Digits.{firstIn, secondIn}
 use Rattle.flags.specs.Flags.{within}
 use Rattle.flags.proofs.Registers.{first-fails, second-fails, no-more, third-fails, last-told}
 use borrow.Author.Needs.{needs}
