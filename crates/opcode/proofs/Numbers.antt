@@ -18,6 +18,9 @@ use Rattle.opcode.specs.Digits.{firstRole, secondRole, thirdRole, roleNu
 use Rattle.opcode.specs.Digits.{sizeIn, firstIn, secondIn, insideIn, lastIn, kindIn, firstByteIn, secondByteIn, thirdIn, formIn}
 use Rattle.opcode.specs.Digits.{firstByte, secondByte, rowDigits, instruction, digitsOf}
 
+pub at : {b k : ℕ} → b ≡ k → digitsOf k ≡ digitsOf b
+at e = ap digitsOf (sym e)
+
 -- b is none of the numbers below n
 abbrev pub NoneOf : ℕ → ℕ → Type 0
 NoneOf zero b = Unit {0}
@@ -27,9 +30,11 @@ not-below : (n b : ℕ) → NoneOf n b → n ≤ b
 not-below zero b h = omega arith
 not-below (suc n) b h = omega (arith, not-below n b (h .0), h .1)
 
-pub above : {b : ℕ} → 119 ≤ b → rowDigits 0 (op NOP Z [] on) ≡ digitsOf b
+pub above : {b : ℕ} → NoneOf 119 b → rowDigits 0 (op NOP Z [] on) ≡ digitsOf b
 unfolding row table
-above {b} n = rw (le-ltb b 119 n) (ap (rowDigits 0) (sym (List·getD-eq-default table (op NOP Z [] on) {n = b} n)))
+above {b} h =
+    let n = not-below 119 b h in
+    rw (le-ltb b 119 n) (ap (rowDigits 0) (sym (List·getD-eq-default table (op NOP Z [] on) {n = b} n)))
 
 pub role-small : (x : Role) → roleNumber x < 5
 role-small plain = omega arith

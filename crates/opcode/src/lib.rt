@@ -6,8 +6,10 @@ ghost use Rattle.opcode.specs.Digits.{roleAt, kindAt, flowAt, digitsOf};
 ghost use Rattle.opcode.specs.Rows.{roleOf, flowOf, rowOf, opRow};
 ghost use Rattle.opcode_kind.specs.Kinds.{kindOf};
 
+pub mod names;
 pub mod parts;
 
+use names::*;
 use parts::*;
 
 // What an operand numbers.
@@ -35,13 +37,6 @@ pub struct OpRow {
     pub third: Role,
     pub flow: Flow,
 }
-
-// The prefixes.
-const EXT1: u8 = 115;
-
-const EXT2: u8 = 116;
-
-const EXT3: u8 = 117;
 
 // Operand kinds by number, in the order of ops.h, each with the size that `Kind::size` answers.
 const Z: usize = 1;
@@ -121,161 +116,153 @@ const S_JUMPS: usize = S + JUMPS;
 const W_ON: usize = W + ON;
 
 // And with the registers that an opcode names by its operands.
-const BBB_SEND: usize = (NUMBER + OF_FIRST + ARGUMENTS_OF_THIRD) * FORM + BBB_REG_SYM;
+const SENT: usize = (NUMBER + OF_FIRST + ARGUMENTS_OF_THIRD) * FORM + BBB_REG_SYM;
 
-const BBB_SENDB: usize = (2 * NUMBER + OF_FIRST + ARGUMENTS_OF_THIRD) * FORM + BBB_REG_SYM;
+const SENT_BLOCK: usize = (2 * NUMBER + OF_FIRST + ARGUMENTS_OF_THIRD) * FORM + BBB_REG_SYM;
 
-const BB_SUPER: usize = (2 * NUMBER + OF_FIRST + ARGUMENTS_OF_SECOND) * FORM + BB_REG;
+const SUPER_SENT: usize = (2 * NUMBER + OF_FIRST + ARGUMENTS_OF_SECOND) * FORM + BB_REG;
 
-const BB_ARRAY: usize = (OF_FIRST + OF_SECOND) * FORM + BB_REG;
+const FROM_FIRST: usize = (OF_FIRST + OF_SECOND) * FORM + BB_REG;
 
-const BBB_ARRAY2: usize = (OF_SECOND + OF_THIRD) * FORM + BBB_REG_REG;
+const FROM_SECOND: usize = (OF_SECOND + OF_THIRD) * FORM + BBB_REG_REG;
 
-const BB_PUSH: usize = (NUMBER + OF_FIRST + OF_SECOND) * FORM + BB_REG;
+const PUSHED: usize = (NUMBER + OF_FIRST + OF_SECOND) * FORM + BB_REG;
 
-const BBB_POST: usize = (NUMBER + OF_FIRST + OF_THIRD) * FORM + BBB_REG;
+const SPREAD: usize = (NUMBER + OF_FIRST + OF_THIRD) * FORM + BBB_REG;
 
-const BB_HASH: usize = (OF_FIRST + 2 * OF_SECOND) * FORM + BB_REG;
+const PAIRS: usize = (OF_FIRST + 2 * OF_SECOND) * FORM + BB_REG;
 
-const BB_HASHADD: usize = (NUMBER + OF_FIRST + 2 * OF_SECOND) * FORM + BB_REG;
+const PAIRS_ADDED: usize = (NUMBER + OF_FIRST + 2 * OF_SECOND) * FORM + BB_REG;
 
 // A prefix and a byte above 118 are no instruction by themselves: NOP's row without a size.
 const NO_SIZE: usize = ON;
-
-const COUNT: usize = 119;
-
-// The digits of the opcodes, in the order of their bytes.
-const OPCODES: [usize; COUNT] = [
-    Z_ON, // NOP
-    BB_REG_REG, // MOVE
-    BB_REG_POOL, // LOADL
-    BB_REG, // LOADI
-    BB_REG, // LOADINEG
-    B_REG, // LOADI__1
-    B_REG, // LOADI_0
-    B_REG, // LOADI_1
-    B_REG, // LOADI_2
-    B_REG, // LOADI_3
-    B_REG, // LOADI_4
-    B_REG, // LOADI_5
-    B_REG, // LOADI_6
-    B_REG, // LOADI_7
-    BS_REG, // LOADI16
-    BSS_REG, // LOADI32
-    BB_REG_SYM, // LOADSYM
-    B_REG, // LOADNIL
-    B_REG, // LOADSELF
-    B_REG, // LOADT
-    B_REG, // LOADF
-    BB_REG_SYM, // GETGV
-    BB_REG_SYM, // SETGV
-    BB_REG_SYM, // GETSV
-    BB_REG_SYM, // SETSV
-    BB_REG_SYM, // GETIV
-    BB_REG_SYM, // SETIV
-    BB_REG_SYM, // GETCV
-    BB_REG_SYM, // SETCV
-    BB_REG_SYM, // GETCONST
-    BB_REG_SYM, // SETCONST
-    BB_REG_SYM, // GETMCNST
-    BB_PAIR_SYM, // SETMCNST
-    BBB_REG, // GETUPVAR
-    BBB_REG, // SETUPVAR
-    B_PAIR, // GETIDX
-    BB_REG_REG, // GETIDX0
-    B_TRIPLE, // SETIDX
-    S_JUMPS, // JMP
-    BS_REG_MAY, // JMPIF
-    BS_REG_MAY, // JMPNOT
-    BS_REG_MAY, // JMPNIL
-    S_JUMPS, // JMPUW
-    B_REG, // EXCEPT
-    BB_REG_REG, // RESCUE
-    B_REG, // RAISEIF
-    B_REG, // MATCHERR
-    BBB_SEND, // SSEND
-    BB_REG_SYM, // SSEND0
-    BBB_SENDB, // SSENDB
-    BBB_SEND, // SEND
-    BB_REG_SYM, // SEND0
-    BBB_SENDB, // SENDB
-    Z_ENDS, // CALL
-    BB_REG, // BLKCALL
-    BB_SUPER, // SUPER
-    BS_REG, // ARGARY
-    W_ON, // ENTER
-    BB_REG_SYM, // KEY_P
-    Z_ON, // KEYEND
-    BB_REG_SYM, // KARG
-    B_REG_ENDS, // RETURN
-    B_REG_ENDS, // RETURN_BLK
-    Z_ENDS, // RETSELF
-    Z_ENDS, // RETNIL
-    Z_ENDS, // RETTRUE
-    Z_ENDS, // RETFALSE
-    B_REG_ENDS, // BREAK
-    BS_REG, // BLKPUSH
-    B_PAIR, // ADD
-    BB_REG, // ADDI
-    B_PAIR, // SUB
-    BB_REG, // SUBI
-    BBB_REG, // ADDILV
-    BBB_REG, // SUBILV
-    B_PAIR, // MUL
-    B_PAIR, // DIV
-    B_PAIR, // EQ
-    B_PAIR, // LT
-    B_PAIR, // LE
-    B_PAIR, // GT
-    B_PAIR, // GE
-    BB_ARRAY, // ARRAY
-    BBB_ARRAY2, // ARRAY2
-    B_PAIR, // ARYCAT
-    BB_PUSH, // ARYPUSH
-    B_REG, // ARYSPLAT
-    BBB_REG_REG, // AREF
-    BBB_REG_REG, // ASET
-    BBB_POST, // APOST
-    B_REG, // INTERN
-    BB_REG_POOL, // SYMBOL
-    BB_REG_POOL, // STRING
-    B_PAIR, // STRCAT
-    BB_HASH, // HASH
-    BB_HASHADD, // HASHADD
-    B_PAIR, // HASHCAT
-    BB_REG_CHILD, // LAMBDA
-    BB_REG_CHILD, // BLOCK
-    BB_REG_CHILD, // METHOD
-    B_PAIR, // RANGE_INC
-    B_PAIR, // RANGE_EXC
-    B_REG, // OCLASS
-    BB_PAIR_SYM, // CLASS
-    BB_REG_SYM, // MODULE
-    BB_REG_CHILD, // EXEC
-    BB_PAIR_SYM, // DEF
-    BBB_REG_SYM_CHILD, // TDEF
-    BBB_REG_SYM_CHILD, // SDEF
-    BB_SYM_SYM, // ALIAS
-    B_SYM, // UNDEF
-    B_REG, // SCLASS
-    B_REG, // TCLASS
-    BBB_ON, // DEBUG
-    B_POOL_ENDS, // ERR
-    NO_SIZE, // EXT1
-    NO_SIZE, // EXT2
-    NO_SIZE, // EXT3
-    Z_ENDS, // STOP
-];
 
 // The digits of an opcode byte. Its size is 0 where it is no instruction by itself.
 pub fn digits(b: u8) -> usize
     ensures { λ r. ⌜ r ≡ digitsOf b ⌝ }
 {
-    let i = b as usize;
-    if i < COUNT {
-        return OPCODES[i];
+    match b {
+        NOP => Z_ON,
+        MOVE => BB_REG_REG,
+        LOADL => BB_REG_POOL,
+        LOADI => BB_REG,
+        LOADINEG => BB_REG,
+        LOADI__1 => B_REG,
+        LOADI_0 => B_REG,
+        LOADI_1 => B_REG,
+        LOADI_2 => B_REG,
+        LOADI_3 => B_REG,
+        LOADI_4 => B_REG,
+        LOADI_5 => B_REG,
+        LOADI_6 => B_REG,
+        LOADI_7 => B_REG,
+        LOADI16 => BS_REG,
+        LOADI32 => BSS_REG,
+        LOADSYM => BB_REG_SYM,
+        LOADNIL => B_REG,
+        LOADSELF => B_REG,
+        LOADT => B_REG,
+        LOADF => B_REG,
+        GETGV => BB_REG_SYM,
+        SETGV => BB_REG_SYM,
+        GETSV => BB_REG_SYM,
+        SETSV => BB_REG_SYM,
+        GETIV => BB_REG_SYM,
+        SETIV => BB_REG_SYM,
+        GETCV => BB_REG_SYM,
+        SETCV => BB_REG_SYM,
+        GETCONST => BB_REG_SYM,
+        SETCONST => BB_REG_SYM,
+        GETMCNST => BB_REG_SYM,
+        SETMCNST => BB_PAIR_SYM,
+        GETUPVAR => BBB_REG,
+        SETUPVAR => BBB_REG,
+        GETIDX => B_PAIR,
+        GETIDX0 => BB_REG_REG,
+        SETIDX => B_TRIPLE,
+        JMP => S_JUMPS,
+        JMPIF => BS_REG_MAY,
+        JMPNOT => BS_REG_MAY,
+        JMPNIL => BS_REG_MAY,
+        JMPUW => S_JUMPS,
+        EXCEPT => B_REG,
+        RESCUE => BB_REG_REG,
+        RAISEIF => B_REG,
+        MATCHERR => B_REG,
+        SSEND => SENT,
+        SSEND0 => BB_REG_SYM,
+        SSENDB => SENT_BLOCK,
+        SEND => SENT,
+        SEND0 => BB_REG_SYM,
+        SENDB => SENT_BLOCK,
+        CALL => Z_ENDS,
+        BLKCALL => BB_REG,
+        SUPER => SUPER_SENT,
+        ARGARY => BS_REG,
+        ENTER => W_ON,
+        KEY_P => BB_REG_SYM,
+        KEYEND => Z_ON,
+        KARG => BB_REG_SYM,
+        RETURN => B_REG_ENDS,
+        RETURN_BLK => B_REG_ENDS,
+        RETSELF => Z_ENDS,
+        RETNIL => Z_ENDS,
+        RETTRUE => Z_ENDS,
+        RETFALSE => Z_ENDS,
+        BREAK => B_REG_ENDS,
+        BLKPUSH => BS_REG,
+        ADD => B_PAIR,
+        ADDI => BB_REG,
+        SUB => B_PAIR,
+        SUBI => BB_REG,
+        ADDILV => BBB_REG,
+        SUBILV => BBB_REG,
+        MUL => B_PAIR,
+        DIV => B_PAIR,
+        EQ => B_PAIR,
+        LT => B_PAIR,
+        LE => B_PAIR,
+        GT => B_PAIR,
+        GE => B_PAIR,
+        ARRAY => FROM_FIRST,
+        ARRAY2 => FROM_SECOND,
+        ARYCAT => B_PAIR,
+        ARYPUSH => PUSHED,
+        ARYSPLAT => B_REG,
+        AREF => BBB_REG_REG,
+        ASET => BBB_REG_REG,
+        APOST => SPREAD,
+        INTERN => B_REG,
+        SYMBOL => BB_REG_POOL,
+        STRING => BB_REG_POOL,
+        STRCAT => B_PAIR,
+        HASH => PAIRS,
+        HASHADD => PAIRS_ADDED,
+        HASHCAT => B_PAIR,
+        LAMBDA => BB_REG_CHILD,
+        BLOCK => BB_REG_CHILD,
+        METHOD => BB_REG_CHILD,
+        RANGE_INC => B_PAIR,
+        RANGE_EXC => B_PAIR,
+        OCLASS => B_REG,
+        CLASS => BB_PAIR_SYM,
+        MODULE => BB_REG_SYM,
+        EXEC => BB_REG_CHILD,
+        DEF => BB_PAIR_SYM,
+        TDEF => BBB_REG_SYM_CHILD,
+        SDEF => BBB_REG_SYM_CHILD,
+        ALIAS => BB_SYM_SYM,
+        UNDEF => B_SYM,
+        SCLASS => B_REG,
+        TCLASS => B_REG,
+        DEBUG => BBB_ON,
+        ERR => B_POOL_ENDS,
+        EXT1 => NO_SIZE,
+        EXT2 => NO_SIZE,
+        EXT3 => NO_SIZE,
+        STOP => Z_ENDS,
+        _ => NO_SIZE,
     }
-    NO_SIZE
 }
 
 // The role of this number: one that is tested with what stands behind it is a register's.

@@ -1,26 +1,133 @@
--- `opcode::digits` meets its contract: the code's list is the digits of each byte below 119, computed.
+-- `opcode::digits` meets its contract: each arm has the digits of its byte.
 -- Assumes nothing.
-use native.Mathlib.Nat.{zero-add}
-use mathlib.Core.Path.{ap, _∙_}
 use Rattle.format.specs.Insn.{table, row}
 use Rattle.format.specs.Registers.{comments, form}
-use Rattle.format.specs.Line.{rowsFrom}
-use Rattle.format.proofs.RowsFrom.{rowsFrom-at}
-use Rattle.opcode.specs.Digits.{digitsOf}
-use Rattle.opcode.proofs.Numbers.{above}
-use borrow.Author.Needs.{needs}
+use Rattle.opcode.proofs.Numbers.{at, above}
 use Rattle.opcode.proofs.digits.Statement.{statement}
 use Rattle.opcode.proofs.digits.Tie as tie
 
-returns : tie.Need-returns
-unfolding rowsFrom row table comments form
-returns c =
-    let b = c .before .args .b in
-    rowsFrom-at digitsOf 0 119 b 0 (c .if1 .taken) ∙ ap digitsOf (zero-add b)
-
-returns-2 : tie.Need-returns-2
-unfolding comments form
-returns-2 c = above (c .if1 .left)
-
 pub digits-spec : {M : Type 1} → statement M
-digits-spec = tie.close (tie.spec (λ c. search needs) (λ c. search needs) returns returns-2)
+unfolding row table comments form
+digits-spec =
+    tie.close
+    (tie.spec
+    (λ c. at (c .match .keys1))
+    (λ c. at (c .match .keys2))
+    (λ c. at (c .match .keys3))
+    (λ c. at (c .match .keys4))
+    (λ c. at (c .match .keys5))
+    (λ c. at (c .match .keys6))
+    (λ c. at (c .match .keys7))
+    (λ c. at (c .match .keys8))
+    (λ c. at (c .match .keys9))
+    (λ c. at (c .match .keys10))
+    (λ c. at (c .match .keys11))
+    (λ c. at (c .match .keys12))
+    (λ c. at (c .match .keys13))
+    (λ c. at (c .match .keys14))
+    (λ c. at (c .match .keys15))
+    (λ c. at (c .match .keys16))
+    (λ c. at (c .match .keys17))
+    (λ c. at (c .match .keys18))
+    (λ c. at (c .match .keys19))
+    (λ c. at (c .match .keys20))
+    (λ c. at (c .match .keys21))
+    (λ c. at (c .match .keys22))
+    (λ c. at (c .match .keys23))
+    (λ c. at (c .match .keys24))
+    (λ c. at (c .match .keys25))
+    (λ c. at (c .match .keys26))
+    (λ c. at (c .match .keys27))
+    (λ c. at (c .match .keys28))
+    (λ c. at (c .match .keys29))
+    (λ c. at (c .match .keys30))
+    (λ c. at (c .match .keys31))
+    (λ c. at (c .match .keys32))
+    (λ c. at (c .match .keys33))
+    (λ c. at (c .match .keys34))
+    (λ c. at (c .match .keys35))
+    (λ c. at (c .match .keys36))
+    (λ c. at (c .match .keys37))
+    (λ c. at (c .match .keys38))
+    (λ c. at (c .match .keys39))
+    (λ c. at (c .match .keys40))
+    (λ c. at (c .match .keys41))
+    (λ c. at (c .match .keys42))
+    (λ c. at (c .match .keys43))
+    (λ c. at (c .match .keys44))
+    (λ c. at (c .match .keys45))
+    (λ c. at (c .match .keys46))
+    (λ c. at (c .match .keys47))
+    (λ c. at (c .match .keys48))
+    (λ c. at (c .match .keys49))
+    (λ c. at (c .match .keys50))
+    (λ c. at (c .match .keys51))
+    (λ c. at (c .match .keys52))
+    (λ c. at (c .match .keys53))
+    (λ c. at (c .match .keys54))
+    (λ c. at (c .match .keys55))
+    (λ c. at (c .match .keys56))
+    (λ c. at (c .match .keys57))
+    (λ c. at (c .match .keys58))
+    (λ c. at (c .match .keys59))
+    (λ c. at (c .match .keys60))
+    (λ c. at (c .match .keys61))
+    (λ c. at (c .match .keys62))
+    (λ c. at (c .match .keys63))
+    (λ c. at (c .match .keys64))
+    (λ c. at (c .match .keys65))
+    (λ c. at (c .match .keys66))
+    (λ c. at (c .match .keys67))
+    (λ c. at (c .match .keys68))
+    (λ c. at (c .match .keys69))
+    (λ c. at (c .match .keys70))
+    (λ c. at (c .match .keys71))
+    (λ c. at (c .match .keys72))
+    (λ c. at (c .match .keys73))
+    (λ c. at (c .match .keys74))
+    (λ c. at (c .match .keys75))
+    (λ c. at (c .match .keys76))
+    (λ c. at (c .match .keys77))
+    (λ c. at (c .match .keys78))
+    (λ c. at (c .match .keys79))
+    (λ c. at (c .match .keys80))
+    (λ c. at (c .match .keys81))
+    (λ c. at (c .match .keys82))
+    (λ c. at (c .match .keys83))
+    (λ c. at (c .match .keys84))
+    (λ c. at (c .match .keys85))
+    (λ c. at (c .match .keys86))
+    (λ c. at (c .match .keys87))
+    (λ c. at (c .match .keys88))
+    (λ c. at (c .match .keys89))
+    (λ c. at (c .match .keys90))
+    (λ c. at (c .match .keys91))
+    (λ c. at (c .match .keys92))
+    (λ c. at (c .match .keys93))
+    (λ c. at (c .match .keys94))
+    (λ c. at (c .match .keys95))
+    (λ c. at (c .match .keys96))
+    (λ c. at (c .match .keys97))
+    (λ c. at (c .match .keys98))
+    (λ c. at (c .match .keys99))
+    (λ c. at (c .match .keys100))
+    (λ c. at (c .match .keys101))
+    (λ c. at (c .match .keys102))
+    (λ c. at (c .match .keys103))
+    (λ c. at (c .match .keys104))
+    (λ c. at (c .match .keys105))
+    (λ c. at (c .match .keys106))
+    (λ c. at (c .match .keys107))
+    (λ c. at (c .match .keys108))
+    (λ c. at (c .match .keys109))
+    (λ c. at (c .match .keys110))
+    (λ c. at (c .match .keys111))
+    (λ c. at (c .match .keys112))
+    (λ c. at (c .match .keys113))
+    (λ c. at (c .match .keys114))
+    (λ c. at (c .match .keys115))
+    (λ c. at (c .match .keys116))
+    (λ c. at (c .match .keys117))
+    (λ c. at (c .match .keys118))
+    (λ c. at (c .match .keys119))
+    (λ c. above (c .match .rest)))
