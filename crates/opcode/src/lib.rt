@@ -116,23 +116,23 @@ const S_JUMPS: usize = S + JUMPS;
 const W_ON: usize = W + ON;
 
 // And with the registers that an opcode names by its operands.
-const SENT: usize = (NUMBER + OF_FIRST + ARGUMENTS_OF_THIRD) * FORM + BBB_REG_SYM;
+const BBB_SEND: usize = (NUMBER + OF_FIRST + ARGUMENTS_OF_THIRD) * FORM + BBB_REG_SYM;
 
-const SENT_BLOCK: usize = (2 * NUMBER + OF_FIRST + ARGUMENTS_OF_THIRD) * FORM + BBB_REG_SYM;
+const BBB_SENDB: usize = (2 * NUMBER + OF_FIRST + ARGUMENTS_OF_THIRD) * FORM + BBB_REG_SYM;
 
-const SUPER_SENT: usize = (2 * NUMBER + OF_FIRST + ARGUMENTS_OF_SECOND) * FORM + BB_REG;
+const BB_SUPER: usize = (2 * NUMBER + OF_FIRST + ARGUMENTS_OF_SECOND) * FORM + BB_REG;
 
-const FROM_FIRST: usize = (OF_FIRST + OF_SECOND) * FORM + BB_REG;
+const BB_ARRAY: usize = (OF_FIRST + OF_SECOND) * FORM + BB_REG;
 
-const FROM_SECOND: usize = (OF_SECOND + OF_THIRD) * FORM + BBB_REG_REG;
+const BBB_ARRAY2: usize = (OF_SECOND + OF_THIRD) * FORM + BBB_REG_REG;
 
-const PUSHED: usize = (NUMBER + OF_FIRST + OF_SECOND) * FORM + BB_REG;
+const BB_PUSH: usize = (NUMBER + OF_FIRST + OF_SECOND) * FORM + BB_REG;
 
-const SPREAD: usize = (NUMBER + OF_FIRST + OF_THIRD) * FORM + BBB_REG;
+const BBB_POST: usize = (NUMBER + OF_FIRST + OF_THIRD) * FORM + BBB_REG;
 
-const PAIRS: usize = (OF_FIRST + 2 * OF_SECOND) * FORM + BB_REG;
+const BB_HASH: usize = (OF_FIRST + 2 * OF_SECOND) * FORM + BB_REG;
 
-const PAIRS_ADDED: usize = (NUMBER + OF_FIRST + 2 * OF_SECOND) * FORM + BB_REG;
+const BB_HASHADD: usize = (NUMBER + OF_FIRST + 2 * OF_SECOND) * FORM + BB_REG;
 
 // A prefix and a byte above 118 are no instruction by themselves: NOP's row without a size.
 const NO_SIZE: usize = ON;
@@ -189,15 +189,15 @@ pub fn digits(b: u8) -> usize
         RESCUE => BB_REG_REG,
         RAISEIF => B_REG,
         MATCHERR => B_REG,
-        SSEND => SENT,
+        SSEND => BBB_SEND,
         SSEND0 => BB_REG_SYM,
-        SSENDB => SENT_BLOCK,
-        SEND => SENT,
+        SSENDB => BBB_SENDB,
+        SEND => BBB_SEND,
         SEND0 => BB_REG_SYM,
-        SENDB => SENT_BLOCK,
+        SENDB => BBB_SENDB,
         CALL => Z_ENDS,
         BLKCALL => BB_REG,
-        SUPER => SUPER_SENT,
+        SUPER => BB_SUPER,
         ARGARY => BS_REG,
         ENTER => W_ON,
         KEY_P => BB_REG_SYM,
@@ -224,20 +224,20 @@ pub fn digits(b: u8) -> usize
         LE => B_PAIR,
         GT => B_PAIR,
         GE => B_PAIR,
-        ARRAY => FROM_FIRST,
-        ARRAY2 => FROM_SECOND,
+        ARRAY => BB_ARRAY,
+        ARRAY2 => BBB_ARRAY2,
         ARYCAT => B_PAIR,
-        ARYPUSH => PUSHED,
+        ARYPUSH => BB_PUSH,
         ARYSPLAT => B_REG,
         AREF => BBB_REG_REG,
         ASET => BBB_REG_REG,
-        APOST => SPREAD,
+        APOST => BBB_POST,
         INTERN => B_REG,
         SYMBOL => BB_REG_POOL,
         STRING => BB_REG_POOL,
         STRCAT => B_PAIR,
-        HASH => PAIRS,
-        HASHADD => PAIRS_ADDED,
+        HASH => BB_HASH,
+        HASHADD => BB_HASHADD,
         HASHCAT => B_PAIR,
         LAMBDA => BB_REG_CHILD,
         BLOCK => BB_REG_CHILD,
