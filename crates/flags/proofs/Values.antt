@@ -2,7 +2,6 @@
 -- Assumes nothing.
 use Prim.Native.Nat.{ℕ, zero, suc, _+_, _-_, _*_, _≤_, _<_}
 use native.Mathlib.Omega.{arith}
-use native.Mathlib.Nat.{mul-le-mul-right}
 use mathlib.Core.Path.{_≡_, ap, _∙_}
 use mathlib.Core.List.{List}
 use Rattle.format.specs.Bytes.{byte}
@@ -21,7 +20,3 @@ pub at-most-once : (x q n : ℕ) → x ≤ 1 → q < n → x * q < n
 at-most-once zero q n p h = omega arith
 at-most-once (suc zero) q n p h = omega arith
 at-most-once (suc (suc x)) q n p h = absurd (omega arith)
-
--- so often at most
-pub at-most : (x k q : ℕ) → x ≤ k → x * q ≤ k * q
-at-most x k q h = mul-le-mul-right q h
