@@ -189,9 +189,6 @@ module _ (c : List ℕ) (o : ℕ) {d : ℕ} (h : o + 1 < length c) (p : prefix (
 
 -- What an answer of the tests says. First how large it is.
 
-pub size-small : (c : List ℕ) (o : ℕ) → sizeAt c o < 64
-size-small c o = omega (arith, rest-at c o, at-most-one (prefix (byte c o)), fields-small (byte c o) (kind (rowAt c o)))
-
 number-small : (s b : Bool) → cond s 25 (refuse 16 b) ≤ 25
 number-small true b = omega arith
 number-small false true = omega arith
@@ -220,6 +217,9 @@ pub passed-here : (l c : List ℕ) (o : ℕ) {d f : ℕ} → o < length c → d 
 passed-here l c o h e s k q = record { none = none-here c o h e s k; next-is = next-here c o h e s; flag-is = q }
 
 module _ (l c : List ℕ) (o : ℕ) {d : ℕ} (e : d ≡ testedAt l c o) where
+  size-small : sizeAt c o < 64
+  size-small = omega (arith, rest-at c o, at-most-one (prefix (byte c o)), fields-small (byte c o) (kind (rowAt c o)))
+
   if-none : at16 c o ≡ 0 → d ≡ sizeAt c o + flagAt (bare l c) o * 64
   unfolding testedAt
   if-none z = e ∙ rw z
@@ -232,14 +232,14 @@ module _ (l c : List ℕ) (o : ℕ) {d : ℕ} (e : d ≡ testedAt l c o) where
   tested-small = go (at16 c o) refl
     where
       go : (n : ℕ) → at16 c o ≡ n → d / 64 < 256
-      go zero q = omega (arith, if-none q, size-small c o, flag-small l c o)
+      go zero q = omega (arith, if-none q, size-small, flag-small l c o)
       go (suc n) q = omega (arith, if-met q, q, number-small (stray c o) (readable c o))
 
   pub tested-met : sizeIn d ≡ 0 → (at16 c o ≡ d / 64) × (d / 64 ≡ 0 → ⊥)
   tested-met z = go (at16 c o) refl
     where
       go : (n : ℕ) → at16 c o ≡ n → (at16 c o ≡ d / 64) × (d / 64 ≡ 0 → ⊥)
-      go zero q = absurd (omega (arith, if-none q, size-small c o))
+      go zero q = absurd (omega (arith, if-none q, size-small))
       go (suc n) q = (q ∙ omega (arith, if-met q), λ y. omega (arith, if-met q))
 
   pub tested-passed : (sizeIn d ≡ 0 → ⊥) → Passed l c o (sizeIn d) (d / 64)
@@ -249,8 +249,8 @@ module _ (l c : List ℕ) (o : ℕ) {d : ℕ} (e : d ≡ testedAt l c o) where
       go zero q =
           record {
             none = q;
-            next-is = let s : sizeIn d ≡ sizeAt c o = omega (arith, if-none q, size-small c o) in ap (λ (n : ℕ). o + n) s;
-            flag-is = omega (arith, if-none q, size-small c o);
+            next-is = let s : sizeIn d ≡ sizeAt c o = omega (arith, if-none q, size-small) in ap (λ (n : ℕ). o + n) s;
+            flag-is = omega (arith, if-none q, size-small);
           }
       go (suc n) q = absurd (z (omega (arith, if-met q)))
 

@@ -196,7 +196,7 @@ pub fn test_behind(code: &[u8], i: usize, limits: &[u32]) -> usize
         return UNREADABLE;
     }
     let below = operands_below(code, i + 2, first_width(p), second_width(p), d, limits);
-    n % SIZE + wide(flag_of(below, i + n < code.len(), d)) * SIZE
+    n + wide(flag_of(below, i + n < code.len(), d)) * SIZE
 }
 
 // The opcode byte of the instruction at `i`.

@@ -12,7 +12,7 @@ use Rattle.opcode.proofs.Numbers.{no-size}
 use Rattle.format.proofs.Prefix.{first-one-or-two, second-one-or-two}
 use Rattle.flags.proofs.Roles.{numbered, bounded-behind, flag-told}
 use Rattle.flags.proofs.Tested.{lead-none, lead-some, tested-stray, tested-unreadable, tested-whole, cut, whole, not-stray, unknown-alone}
-use Rattle.flags.proofs.Tested.{stray-last, stray-again, not-again, unknown-behind, not-stray-behind, looked-behind, known-behind, next-behind, size-small}
+use Rattle.flags.proofs.Tested.{stray-last, stray-again, not-again, unknown-behind, not-stray-behind, looked-behind, known-behind, next-behind}
 use borrow.Author.Needs.{needs}
 use Rattle.flags.proofs.test_behind.Statement.{statement}
 use Rattle.flags.proofs.test_behind.Tie as tie
@@ -119,7 +119,7 @@ returns-6 c =
     let f = bounded-behind k (start .pre .0) p (first .first-width .ensures) (second .second-width .ensures) (below .operands-below .ensures) in
     tested-whole (a .limits .now) code (a .i) (not-stray-behind code (a .i) h p e s)
     (whole code (a .i) (known-behind code (a .i) h p e s) (omega (arith, n, if5 .if5 .left)))
-    (omega (arith, n, size-small code (a .i)))
+    (omega (arith, n))
     (c .wide .ensures .0 ∙ flag .flag-of .ensures .0 ∙ flag-told k (a .limits .now) f (ap (λ (x : ℕ). ltb x (length code)) n))
 
 pub test-behind-spec : {M : Type 1} → statement M
