@@ -9,7 +9,8 @@ use lib.Dec.{T, eqb, eqb→eq, leb, ltb}
 use lib.ListN.{getD}
 use borrow.Author.Tests.{lt-ltb, le-ltb, le-leb, ltb-true, ltb-false, leb-true, leb-false, ne-eqb}
 use Rattle.format.specs.Bytes.{byte}
-use Rattle.format.specs.Insn.{Kind, Z, BB, B, BS, BSS, BBB, S, W, Role, reg, pool, sym as symbol, child, plain, Row, fieldsBy, name, kind, table, row, firstWidth, secondWidth, operand, operands, opcode, rowAt}
+use Rattle.format.specs.Insn.{Kind, Z, BB, B, BS, BSS, BBB, S, W, Role, reg, pool, sym as symbol, child, plain}
+use Rattle.format.specs.Insn.{Row, fieldsBy, name, kind, table, row, firstWidth, secondWidth, operand, operands, opcode, rowAt}
 use Rattle.format.specs.Sizes.{kindNumber, among, haveFirst, haveSecond}
 use Rattle.format.specs.Registers.{Form, own, pair, triple, send, sendb, super, array, array2, push, post, hash, hashadd}
 use Rattle.format.specs.Registers.{range, arguments, named, comments, form}

@@ -19,7 +19,7 @@ use Rattle.format.specs.Exam.{Below, below, allBelow, operandsBelow, bounded}
 use Rattle.format.specs.Run.{enter, Frame, frame, codeOf, childOperand, into, move, oneStep}
 use Rattle.format.specs.Claim.{FrameHolds}
 use Rattle.format.proofs.Table.{both}
-use Rattle.laws.proofs.Registers.{as-before}
+use Rattle.laws.proofs.Registers.{arg, as-before}
 
 abbrev rolesOf : OpCode → List Role
 rolesOf o = roles (row (number o))
@@ -111,10 +111,6 @@ send0-shape c o i = ⊎-elim (λ e. shape c o (number SSEND0) e refl refl refl) 
 def-shape : (c : List ℕ) (o : ℕ) → IsDef c o → Shaped c o BBB (reg ∷ symbol ∷ child ∷ [])
 unfolding row table comments form
 def-shape c o i = ⊎-elim (λ e. shape c o (number TDEF) e refl refl refl) (λ e. shape c o (number SDEF) e refl refl refl) i
-
--- the operands of the instruction at o, by their places among them
-abbrev pub arg : List ℕ → ℕ → ℕ → ℕ
-arg c o i = getD (operandsAt c o) i 0
 
 -- "Refusal 17 .. cover these operands and children": what it tests there
 module _ (r : Record) (o : ℕ) where

@@ -3,16 +3,23 @@
 use Prim.Native.Nat.{ℕ, _+_, _*_, _/_, _%_, _≤_, _<_}
 use native.Mathlib.Omega.{arith}
 use mathlib.Core.Path.{_≡_, refl, sym, subst}
-use mathlib.Core.Logic.{_⊎_, inl, inr, _↔_}
+use mathlib.Core.Logic.{_⊎_, inl, inr, ⊎-elim, _↔_}
 use mathlib.Core.Bool.{Bool, true, false, _&&_, not, cond}
+use mathlib.Core.List.{List}
 use lib.Dec.{T, eqb}
 use lib.ListN.{length, getD}
-use Rattle.format.specs.Insn.{plain, name, roles, rowAt, operandsAt}
+use Rattle.format.specs.Insn.{SETIDX, SSEND, SEND, ADD, ARRAY, plain, number, name, roles, table, row, opcode, rowAt, operandsAt}
 use Rattle.format.specs.Registers.{Form, own, pair, triple, send, sendb, super, array, array2, push, post, hash, hashadd, counted, arguments, named}
-use Rattle.format.specs.Registers.{form, Names}
-use Rattle.format.specs.Pattern.{Record}
+use Rattle.format.specs.Registers.{Range, comments, form, Names, by-comment}
+use Rattle.format.specs.Pattern.{Record, Pattern, recAt}
 use Rattle.format.specs.Exam.{Below, operandsBelow, rangeBelow, bounded, HighOperand, HighRegister}
+use Rattle.format.specs.Run.{Frame, codeOf}
+use Rattle.format.specs.Claim.{FrameHolds}
 use Rattle.runs.proofs.Registers.{below-of, named-below, some-high}
+
+-- the operands of the instruction at o, by their places among them
+abbrev pub arg : List ℕ → ℕ → ℕ → ℕ
+arg c o i = getD (operandsAt c o) i 0
 
 -- "SUPER counts like SSENDB with its b for c"
 pub super-like-ssendb : (a b c d : ℕ) → named super a b c ≡ named sendb a d b
@@ -36,8 +43,8 @@ bits-above v =
     rw (low, next)
 
 -- "a range that ends below its start names none"
-pub none-named : (x y z : ℕ) → y ≤ x → x ≤ z → z < y → ⊥
-none-named x y z h l g = omega arith
+pub none-named : (s : Range) → s .upto ≤ s .from → (x : ℕ) → s .from ≤ x → x < s .upto → ⊥
+none-named s h x l g = omega arith
 
 -- the registers of operands below 65536 do not go beyond 65535 + 2 * 65535
 counted-few : (m n : ℕ) → m * n ≤ 30 → counted m n ≤ 30
@@ -88,3 +95,35 @@ module _ (r : Record) (o : ℕ) where
       go : (a : Bool) → (a && true) ≡ a
       go true = refl
       go false = refl
+
+-- "In a run of a passing file every register so named .. is below nregs": "R[a+1] of ADD, R[a+2] of SETIDX", the last of a call, and the b registers of
+-- ARRAY, by what demand 3 says of frames
+module _ {p : Pattern} {f : Frame} (h : FrameHolds p f) where
+  abbrev code : List ℕ
+  code = codeOf p f
+
+  abbrev nregs : ℕ
+  nregs = recAt p (f .rec) .nregs
+
+  abbrev operand : ℕ → ℕ
+  operand = arg code (f .at)
+
+  at-form : (g : Form) (x : ℕ) → form (name (rowAt code (f .at))) ≡ g → named g (operand 0) (operand 1) (operand 2) .from ≤ x
+      → x < named g (operand 0) (operand 1) (operand 2) .upto → x < nregs
+  at-form g x e l u = h .registers x (by-comment (rw e l) (rw e u))
+
+  pub add-frame : opcode code (f .at) ≡ number ADD → operand 0 + 1 < nregs
+  unfolding row table comments form
+  add-frame e = at-form pair (operand 0 + 1) (rw e) (omega arith) (omega arith)
+
+  pub setidx-frame : opcode code (f .at) ≡ number SETIDX → operand 0 + 2 < nregs
+  unfolding row table comments form
+  setidx-frame e = at-form triple (operand 0 + 2) (rw e) (omega arith) (omega arith)
+
+  pub send-frame : (opcode code (f .at) ≡ number SSEND) ⊎ (opcode code (f .at) ≡ number SEND) → operand 0 + arguments (operand 2) < nregs
+  unfolding row table comments form
+  send-frame i = at-form send (operand 0 + arguments (operand 2)) (⊎-elim (λ e. rw e) (λ e. rw e) i) (omega arith) (omega arith)
+
+  pub array-frame : opcode code (f .at) ≡ number ARRAY → (i : ℕ) → i < operand 1 → operand 0 + i < nregs
+  unfolding row table comments form
+  array-frame e i l = at-form array (operand 0 + i) (rw e) (omega arith) (omega arith)
