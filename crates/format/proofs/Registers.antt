@@ -1,36 +1,98 @@
--- The two renderings of the registers that an instruction names agree: one computed test over the table of opcodes and operands that show every case.
+-- The two renderings of the registers that an instruction names agree, for every opcode and all operands.
 -- Assumes nothing.
-use Prim.Native.Nat.{ℕ, _-_}
-use mathlib.Core.Bool.{Bool, true, false, _&&_}
+use Prim.Native.Nat.{ℕ, suc, _+_, _-_, _*_, _/_, _%_}
+use native.Mathlib.Omega.{arith}
+use mathlib.Core.Path.{_≡_, refl, sym, ap, _∙_}
+use mathlib.Core.Bool.{Bool, true, false, cond}
 use mathlib.Core.List.{List, [], _∷_}
-use lib.Dec.{T, eqb}
+use lib.Dec.{eqb, eqb→eq}
+use lib.ListN.{getD}
 use Rattle.format.specs.Insn.{Row, name, table, row}
-use Rattle.format.specs.Registers.{Range, named, comments, form, countFrom, listed}
+use Rattle.format.specs.Registers.{Range, Form, own, pair, triple, send, sendb, super, array, array2, push, post, hash, hashadd}
+use Rattle.format.specs.Registers.{arguments, named, comments, form, countFrom, through, lastOfCall, listed, saidOf}
 use Rattle.format.proofs.Table.{by-test}
 
-abbrev inRange : Range → List ℕ
-inRange s = countFrom (s .from) (s .upto - s .from)
+-- Each opcode has one form in both: a test that is computed over the table.
+index : Form → ℕ
+index own = 0
+index pair = 1
+index triple = 2
+index send = 3
+index sendb = 4
+index super = 5
+index array = 6
+index array2 = 7
+index push = 8
+index post = 9
+index hash = 10
+index hashadd = 11
 
-same : List ℕ → List ℕ → Bool
-same [] [] = true
-same [] (y ∷ ys) = false
-same (x ∷ xs) [] = false
-same (x ∷ xs) (y ∷ ys) = eqb x y && same xs ys
+forms : List Form
+forms = own ∷ pair ∷ triple ∷ send ∷ sendb ∷ super ∷ array ∷ array2 ∷ push ∷ post ∷ hash ∷ hashadd ∷ []
 
-agrees : Row → ℕ → ℕ → ℕ → Bool
-agrees r a b c = same (inRange (named (form (name r)) a b c)) (listed (name r) a b c)
+formAt : ℕ → Form
+formAt n = getD forms n own
 
--- none, one and some; n and k of 14, of 15 and of both; bits above 7
-values : List ℕ
-values = 0 ∷ 1 ∷ 2 ∷ 15 ∷ 18 ∷ 238 ∷ 240 ∷ 255 ∷ 271 ∷ []
+back : (f : Form) → formAt (index f) ≡ f
+unfolding index forms formAt
+back own = refl
+back pair = refl
+back triple = refl
+back send = refl
+back sendb = refl
+back super = refl
+back array = refl
+back array2 = refl
+back push = refl
+back post = refl
+back hash = refl
+back hashadd = refl
 
-allOf : (ℕ → Bool) → List ℕ → Bool
-allOf f [] = true
-allOf f (v ∷ vs) = f v && allOf f vs
+same-form : Row → Bool
+same-form r = eqb (index (form (name r))) (index (saidOf (name r)))
 
-pub agreement : Row → Bool
-agreement r = allOf (λ (a : ℕ). allOf (λ (v : ℕ). agrees r a v 3 && agrees r a 3 v) values) (0 ∷ 1 ∷ 5 ∷ [])
+pub forms-agree : (b : ℕ) → form (name (row b)) ≡ saidOf (name (row b))
+unfolding same-form index comments form table row
+forms-agree b = sym (back (form (name (row b)))) ∙ ap formAt (eqb→eq _ _ (by-test same-form tt b)) ∙ back (saidOf (name (row b)))
 
-pub renderings-agree : (b : ℕ) → T (agreement (row b))
-unfolding agreement allOf values agrees same countFrom comments form table row
-renderings-agree b = by-test agreement tt b
+-- the registers of a range, one by one
+abbrev sizeOf : Range → ℕ
+sizeOf s = s .upto - s .from
+
+abbrev pub inRange : Range → List ℕ
+inRange s = countFrom (s .from) (sizeOf s)
+
+last-is : (a v : ℕ) → lastOfCall a v ≡ a + arguments v
+last-is a v = go (eqb (v % 16) 15) (eqb (v / 16 % 16) 15) (v % 16) (v / 16 % 16)
+  where
+    go : (p q : Bool) (n k : ℕ) → a + cond p 1 n + cond q 1 (k + k) ≡ a + (cond p 1 (1 * n) + cond q 1 (2 * k))
+    go true true n k = omega arith
+    go true false n k = omega arith
+    go false true n k = omega arith
+    go false false n k = omega arith
+
+-- as many registers are listed as there are in the range
+pub listed-is : (f : Form) (a b c : ℕ) → inRange (named f a b c) ≡ listed f a b c
+unfolding countFrom
+listed-is own a b c = refl
+listed-is pair a b c =
+    let many : sizeOf (named pair a b c) ≡ 2 = omega arith in
+    let next : suc a ≡ a + 1 = omega arith in
+    rw (many, next)
+listed-is triple a b c =
+    let many : sizeOf (named triple a b c) ≡ 3 = omega arith in
+    let next : suc a ≡ a + 1 = omega arith in
+    let last : suc (a + 1) ≡ a + 2 = omega arith in
+    rw (many, next, last)
+listed-is send a b c = let many : sizeOf (named send a b c) ≡ suc (lastOfCall a c) - a = omega (arith, last-is a c) in rw many
+listed-is sendb a b c = let many : sizeOf (named sendb a b c) ≡ suc (lastOfCall a c + 1) - a = omega (arith, last-is a c) in rw many
+listed-is super a b c = let many : sizeOf (named super a b c) ≡ suc (lastOfCall a b + 1) - a = omega (arith, last-is a b) in rw many
+listed-is array a b c = let many : sizeOf (named array a b c) ≡ b = omega arith in rw many
+listed-is array2 a b c = let many : sizeOf (named array2 a b c) ≡ c = omega arith in rw many
+listed-is push a b c = let many : sizeOf (named push a b c) ≡ suc (a + b) - (a + 1) = omega arith in rw many
+listed-is post a b c = let many : sizeOf (named post a b c) ≡ suc (a + c) - (a + 1) = omega arith in rw many
+listed-is hash a b c = let many : sizeOf (named hash a b c) ≡ suc (a + b * 2 - 1) - (a + 1) = omega arith in rw many
+listed-is hashadd a b c = let many : sizeOf (named hashadd a b c) ≡ suc (a + b * 2) - (a + 1) = omega arith in rw many
+
+pub renderings-agree : (o a b c : ℕ) → inRange (named (form (name (row o))) a b c) ≡ listed (saidOf (name (row o))) a b c
+renderings-agree o a b c = rw (forms-agree o) (listed-is (saidOf (name (row o))) a b c)

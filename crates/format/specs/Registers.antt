@@ -105,8 +105,8 @@ pub data Names (c : List ℕ) (o x : ℕ) : Type 0 where
   by-role : (i : ℕ) → i < length (roles (rowAt c o)) → getD (roles (rowAt c o)) i plain ≡ reg → getD (operandsAt c o) i 0 ≡ x → Names c o x
   by-comment : registersAt c o .from ≤ x → x < registersAt c o .upto → Names c o x
 
--- Paper 02's sentences and the comments' ranges, register by register: a second rendering of `named`.
--- proofs/Registers has the computed test that the two agree.
+-- Paper 02's sentences and the comments' ranges, register by register, and the opcodes that they are said of: a second rendering of `named` and `form`.
+-- proofs/Registers has the theorem that the two agree.
 
 -- so many registers from x on
 unfoldable pub countFrom : ℕ → ℕ → List ℕ
@@ -121,21 +121,33 @@ through x y = countFrom x (suc y - x)
 abbrev pub lastOfCall : ℕ → ℕ → ℕ
 lastOfCall a v = a + cond (eqb (v % 16) 15) 1 (v % 16) + cond (eqb (v / 16 % 16) 15) 1 (v / 16 % 16 + v / 16 % 16)
 
-abbrev pub listed : OpCode → ℕ → ℕ → ℕ → List ℕ
-listed o a b c =
-    -- "R[a+1] of ADD, R[a+2] of SETIDX, and so on"
-    cond (among (SETMCNST ∷ GETIDX ∷ ADD ∷ SUB ∷ MUL ∷ DIV ∷ EQ ∷ LT ∷ LE ∷ GT ∷ GE ∷ []) o) (a ∷ (a + 1) ∷ [])
-    (cond (among (ARYCAT ∷ STRCAT ∷ HASHCAT ∷ «RANGE_INC» ∷ «RANGE_EXC» ∷ CLASS ∷ DEF ∷ []) o) (a ∷ (a + 1) ∷ [])
-    (cond (among (SETIDX ∷ []) o) (a ∷ (a + 1) ∷ (a + 2) ∷ [])
-    -- "the last is a + n + 2k, with one more in SSENDB and SENDB"; "SUPER counts like SSENDB with its b for c"
-    (cond (among (SSEND ∷ SEND ∷ []) o) (through a (lastOfCall a c))
-    (cond (among (SSENDB ∷ SENDB ∷ []) o) (through a (lastOfCall a c + 1))
-    (cond (among (SUPER ∷ []) o) (through a (lastOfCall a b + 1))
-    -- "they take b registers from R[a] and c from R[b]"
-    (cond (among (ARRAY ∷ []) o) (countFrom a b)
-    (cond (among (ARRAY2 ∷ []) o) (countFrom b c)
-    -- the comments' ranges
-    (cond (among (ARYPUSH ∷ []) o) (through (a + 1) (a + b))
-    (cond (among (APOST ∷ []) o) (through (a + 1) (a + c))
-    (cond (among (HASH ∷ []) o) (through (a + 1) (a + b * 2 - 1))
-    (cond (among (HASHADD ∷ []) o) (through (a + 1) (a + b * 2)) [])))))))))))
+-- what each names by the operands a, b and c
+abbrev pub listed : Form → ℕ → ℕ → ℕ → List ℕ
+listed own a b c = []
+listed pair a b c = a ∷ (a + 1) ∷ []  -- "R[a+1] of ADD,
+listed triple a b c = a ∷ (a + 1) ∷ (a + 2) ∷ []  -- R[a+2] of SETIDX, and so on"
+listed send a b c = through a (lastOfCall a c)  -- "the last is a + n + 2k,
+listed sendb a b c = through a (lastOfCall a c + 1)  -- with one more in SSENDB and SENDB"
+listed super a b c = through a (lastOfCall a b + 1)  -- "SUPER counts like SSENDB with its b for c"
+listed array a b c = countFrom a b  -- "they take b registers from R[a]
+listed array2 a b c = countFrom b c  -- and c from R[b]"
+listed push a b c = through (a + 1) (a + b)  -- the comments' ranges
+listed post a b c = through (a + 1) (a + c)
+listed hash a b c = through (a + 1) (a + b * 2 - 1)
+listed hashadd a b c = through (a + 1) (a + b * 2)
+
+-- and what is said of an opcode
+abbrev pub saidOf : OpCode → Form
+saidOf o =
+    cond (among (SETMCNST ∷ GETIDX ∷ ADD ∷ SUB ∷ MUL ∷ DIV ∷ EQ ∷ LT ∷ LE ∷ GT ∷ GE ∷ []) o) pair
+    (cond (among (ARYCAT ∷ STRCAT ∷ HASHCAT ∷ «RANGE_INC» ∷ «RANGE_EXC» ∷ CLASS ∷ DEF ∷ []) o) pair
+    (cond (among (SETIDX ∷ []) o) triple
+    (cond (among (SSEND ∷ SEND ∷ []) o) send
+    (cond (among (SSENDB ∷ SENDB ∷ []) o) sendb
+    (cond (among (SUPER ∷ []) o) super
+    (cond (among (ARRAY ∷ []) o) array
+    (cond (among (ARRAY2 ∷ []) o) array2
+    (cond (among (ARYPUSH ∷ []) o) push
+    (cond (among (APOST ∷ []) o) post
+    (cond (among (HASH ∷ []) o) hash
+    (cond (among (HASHADD ∷ []) o) hashadd own)))))))))))
