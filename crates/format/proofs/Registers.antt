@@ -9,7 +9,7 @@ use lib.Dec.{eqb, eqb→eq}
 use lib.ListN.{getD}
 use Rattle.format.specs.Insn.{Row, name, table, row}
 use Rattle.format.specs.Registers.{Range, Form, own, pair, triple, send, sendb, super, array, array2, push, post, hash, hashadd}
-use Rattle.format.specs.Registers.{arguments, named, comments, form, countFrom, through, lastOfCall, listed, saidOf}
+use Rattle.format.specs.Registers.{arguments, named, comments, form, countFrom, lastOfCall, listed, saidOf}
 use Rattle.format.proofs.Table.{by-test}
 
 -- Each opcode has one form in both: a test that is computed over the table.

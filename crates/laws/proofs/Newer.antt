@@ -19,7 +19,7 @@ use Rattle.format.specs.Exam.{Below, below, allBelow, operandsBelow, bounded}
 use Rattle.format.specs.Run.{enter, Frame, frame, codeOf, childOperand, into, move, oneStep}
 use Rattle.format.specs.Claim.{FrameHolds}
 use Rattle.format.proofs.Table.{both}
-use Rattle.laws.proofs.Registers.{arg, as-before}
+use Rattle.laws.proofs.Registers.{arg, and-true, as-before}
 
 abbrev rolesOf : OpCode → List Role
 rolesOf o = roles (row (number o))
@@ -79,10 +79,6 @@ passed-before r o t = go (newer (name (rowAt (r .code) o)))
     go : (b : Bool) → T (allBelow r (cond b (firstAlone xs) xs) (operandsAt (r .code) o))
     go true = first-below r xs (operandsAt (r .code) o) (search both)
     go false = search both
-
-and-true : (a : Bool) → (a && true) ≡ a
-and-true true = refl
-and-true false = refl
 
 -- the instruction at o is one of these
 abbrev pub IsSend0 : List ℕ → ℕ → Type 0

@@ -71,6 +71,10 @@ last-small post a b c x y z = omega arith
 last-small hash a b c x y z = omega arith
 last-small hashadd a b c x y z = omega arith
 
+pub and-true : (a : Bool) → (a && true) ≡ a
+and-true true = refl
+and-true false = refl
+
 module _ (r : Record) (o : ℕ) where
   -- "Refusal 17 widens so": it is not met at an instruction exactly when each operand is below its count and each register named below nregs
   pub told : T (bounded r o)
@@ -90,11 +94,7 @@ module _ (r : Record) (o : ℕ) where
   -- an opcode whose comment names no further register has the earlier 17
   pub as-before : form (name (rowAt (r .code) o)) ≡ own → bounded r o ≡ operandsBelow r o
   unfolding bounded rangeBelow
-  as-before e = rw e (go (operandsBelow r o))
-    where
-      go : (a : Bool) → (a && true) ≡ a
-      go true = refl
-      go false = refl
+  as-before e = rw e (and-true (operandsBelow r o))
 
 -- "In a run of a passing file every register so named .. is below nregs": "R[a+1] of ADD, R[a+2] of SETIDX", the last of a call, and the b registers of
 -- ARRAY, by what demand 3 says of frames
