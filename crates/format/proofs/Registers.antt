@@ -55,10 +55,11 @@ pub forms-agree : (b : ℕ) → form (name (row b)) ≡ saidOf (name (row b))
 unfolding same-form index comments form table row
 forms-agree b = sym (back (form (name (row b)))) ∙ ap formAt (eqb→eq _ _ (by-test same-form tt b)) ∙ back (saidOf (name (row b)))
 
--- the registers of a range, one by one
+-- how many registers a range has
 abbrev sizeOf : Range → ℕ
 sizeOf s = s .upto - s .from
 
+-- and these one by one
 abbrev pub inRange : Range → List ℕ
 inRange s = countFrom (s .from) (sizeOf s)
 

@@ -1,4 +1,4 @@
--- Request j): the sentences on registers, what 17 tests against its words, and an opcode without such a comment.
+-- Request j): the sentences on registers, what 17 tests against its words, an opcode without such a comment, and frames of runs.
 -- Assumes nothing.
 use Prim.Native.Nat.{ℕ, _+_, _*_, _/_, _%_, _≤_, _<_}
 use native.Mathlib.Omega.{arith}
