@@ -3,12 +3,12 @@
 use mathlib.Core.Path.{_≡_, refl}
 use mathlib.Core.Logic.{_↔_}
 use Rattle.format.specs.Bytes.{Answer}
-use Rattle.format.specs.Load.{Nine}
+use Rattle.format.specs.Load.{Counts}
 use Rattle.format.specs.Run.{Standing, finished, stands}
 use Rattle.format.proofs.Answers.{NotZero, Valued, zero-iff}
 use Rattle.boundary.specs.Structs.{loadedIs, standingIs, followedIs}
 
-pub loaded-zero : (x : Answer Nine) → NotZero x → (loadedIs x .refusal ≡ 0) ↔ Valued x
+pub loaded-zero : (x : Answer Counts) → NotZero x → (loadedIs x .refusal ≡ 0) ↔ Valued x
 loaded-zero = zero-iff (λ x. loadedIs x .refusal) (λ _. refl) (λ _. refl)
 
 pub followed-zero : (x : Answer Standing) → NotZero x → (followedIs x .refusal ≡ 0) ↔ Valued x

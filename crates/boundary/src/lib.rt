@@ -7,9 +7,9 @@ use run::Followed;
 ghost use mathlib.Core.Path.{_≡_};
 ghost use Rattle.rite.specs.Answers as rite;
 ghost use Rattle.run.specs.Answers as run;
-ghost use Rattle.boundary.specs.Structs.{rowsIs, loadedIs, followedIs};
+ghost use Rattle.boundary.specs.Structs.{countsIs, loadedIs, followedIs};
 
-// A load's or an examination's answer: the rows used of each table.
+// A load's or an examination's answer: the rows used of each table, and the visits that the LVAR walk made.
 #[repr(C)]
 pub struct BlotheathLoaded {
     pub refusal: u32,
@@ -22,6 +22,7 @@ pub struct BlotheathLoaded {
     pub filenames: u32,
     pub files: u32,
     pub lines: u32,
+    pub visits: u32,
 }
 
 // Where a run stands: 1 where it is finished, and then no frames; else the top frame's record and offset, its line as in BlotheathLine, and
@@ -37,8 +38,8 @@ pub struct BlotheathFollowed {
     pub frames: u32,
 }
 
-fn rows(u: Used) -> BlotheathLoaded
-    ensures { λ r. ⌜ r ≡ rowsIs (rite.nineOf u) ⌝ }
+fn counts(u: Used) -> BlotheathLoaded
+    ensures { λ r. ⌜ r ≡ countsIs (rite.countsOf u) ⌝ }
 {
     BlotheathLoaded {
         refusal: 0,
@@ -51,6 +52,7 @@ fn rows(u: Used) -> BlotheathLoaded
         filenames: u.filenames,
         files: u.files,
         lines: u.lines,
+        visits: u.visits,
     }
 }
 
@@ -58,7 +60,7 @@ pub fn loaded(l: Loaded) -> BlotheathLoaded
     ensures { λ r. ⌜ r ≡ loadedIs (rite.answerOf l) ⌝ }
 {
     match l {
-        Loaded::Rows(u) => rows(u),
+        Loaded::Rows(u) => counts(u),
         Loaded::Refused(n) => BlotheathLoaded {
             refusal: n as u32,
             records: 0,
@@ -70,6 +72,7 @@ pub fn loaded(l: Loaded) -> BlotheathLoaded
             filenames: 0,
             files: 0,
             lines: 0,
+            visits: 0,
         },
     }
 }

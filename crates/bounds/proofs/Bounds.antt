@@ -1,4 +1,4 @@
--- u32 counts the rows of each table of a file's reading, refused or not.
+-- u32 counts the rows of each table of a file's reading, refused or not, and the visits of its LVAR walk where it has at most 1,024 records.
 -- Assumes nothing.
 use Prim.Native.Nat.{ℕ, zero, suc, _+_, _≤_, _<_}
 use native.Mathlib.Omega.{arith}
@@ -12,11 +12,14 @@ use Rattle.format.specs.Bytes.{refused, has}
 use Rattle.format.specs.Headers.{irep, lvar, dbg, end}
 use Rattle.format.specs.Reading.{Part, part}
 use Rattle.format.specs.Irep.{Rec, irepSection}
+use Rattle.format.specs.Walk.{visits}
+use Rattle.format.specs.Lvar.{Lvar}
 use Rattle.format.specs.File.{Content, isMark, once, afterIrep, sectionAt, sections, nothing, fileRefusal, fileReading}
-use Rattle.format.specs.Load.{joined, recordsOf, stringsOf, namesOf, fileNamesOf, filesOf, Tables, tablesOf}
+use Rattle.format.specs.Load.{joined, recordsOf, stringsOf, namesOf, fileNamesOf, filesOf, Tables, tablesOf, visitsOf}
 use Rattle.format.proofs.Answers.{either, anything, answered}
 use Rattle.format.proofs.File.{accepted}
 use Rattle.format.proofs.Places.{fileRows-length}
+use Rattle.format.proofs.Walk.{visits-most}
 use Rattle.bounds.proofs.Sections.{filesAndLines, lvarSection-rows, debugSection-rows}
 use Rattle.bounds.proofs.Sums.{Sums, no-sums, irepSection-sums}
 
@@ -80,7 +83,7 @@ module _ (f : List ℕ) (bytes : (i : ℕ) → getD f i 0 < 256) (n : ℕ) (shor
   drop-sums : (at : ℕ) → Sums n (irepSection (drop at f) at .rows)
   drop-sums at =
       let s = irepSection-sums (drop at f) (λ i. rw getD-drop (bytes (at + i))) at in
-      record { records = omega (arith, drop-short at); handlers = s .handlers; pool = s .pool; symbols = s .symbols }
+      record { records = omega (arith, drop-short at); handlers = s .handlers; pool = s .pool; symbols = s .symbols; children = s .children }
 
   -- a section, behind what was read before it; and the sections from a place on
   pub sectionAt-counts : (c : Content) (at : ℕ) → Counts n c → Keeps n (sectionAt f c at)
@@ -123,3 +126,11 @@ reading-bounds f bytes = counts-bounds (fileReading f .it) (fileReading-counts f
 -- the same of a reading that fits the 1,024 records
 pub bounds : (f : List ℕ) → ((i : ℕ) → getD f i 0 < 256) → length (recordsOf (fileReading f .it)) ≤ 1024 → Bounds (tablesOf (fileReading f .it))
 bounds f bytes _ = reading-bounds f bytes
+
+-- "1 plus the rlens of the records visited": at most 1 + 1,024 * 65,535
+pub visits-few : (f : List ℕ) → ((i : ℕ) → getD f i 0 < 256) → length (recordsOf (fileReading f .it)) ≤ 1024 → visitsOf (fileReading f .it) ≤ 67107841
+visits-few f bytes few = go (fileReading f .it .lvar)
+  where
+    go : (l : Option Lvar) → elim l [ none ↦ 0 | some _ ↦ visits (recordsOf (fileReading f .it)) 1 ] ≤ 67107841
+    go none = omega arith
+    go (some _) = omega (arith, few, visits-most (recordsOf (fileReading f .it)) 1, fileReading-counts f bytes .irep .children)

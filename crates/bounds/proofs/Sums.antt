@@ -1,4 +1,5 @@
--- A record of a file of bytes has at most 65,535 rows in each list, since two bytes hold the count; a section has at most as many records as bytes.
+-- A record of a file of bytes has at most 65,535 rows in each list, and as many children, since two bytes hold the count; a section has at most as
+-- many records as bytes.
 -- Assumes nothing.
 use Prim.Native.Nat.{ℕ, zero, suc, _+_, _*_, _≤_, _<_}
 use native.Mathlib.Omega.{arith}
@@ -9,7 +10,9 @@ use Rattle.format.specs.Bytes.{Answer, ok, refused, Step, has, u16At, u32At}
 use Rattle.format.specs.Reading.{Read, Part, andThen, inTurn}
 use Rattle.format.specs.Irep.{handler, symbolText, poolEntry, counted, headAt, Body, body, Rec, bodyAt, recordAt, recordsFrom, irepSection}
 use Rattle.format.specs.Load.{gathered}
+use Rattle.format.specs.Tree.{total}
 use Rattle.format.proofs.Answers.{either}
+use Rattle.format.proofs.Walk.{rlens}
 use Rattle.bounds.proofs.Covers.{inTurn-count}
 
 -- what holds of no rows and of those that follow holds wherever reading ended
@@ -23,24 +26,32 @@ pub record Small (x : Body) : Type 0 where
   pub pool : length (x .pool) ≤ 65535
   pub symbols : length (x .symbols) ≤ 65535
 
--- at most n records, and the lists of them all
+-- with its number of children
+abbrev SmallRec : Rec → Type 0
+SmallRec r = Small (r .body) × (r .head .rlen ≤ 65535)
+
+-- at most n records, and the lists and the children of them all
 pub record Sums (n : ℕ) (rs : List Rec) : Type 0 where
   pub records : length rs ≤ n
   pub handlers : length (gathered (λ (r : Rec). r .body .handlers) rs) ≤ length rs * 65535
   pub pool : length (gathered (λ (r : Rec). r .body .pool) rs) ≤ length rs * 65535
   pub symbols : length (gathered (λ (r : Rec). r .body .symbols) rs) ≤ length rs * 65535
+  pub children : total (rlens rs) ≤ length rs * 65535
 
 pub no-sums : (n : ℕ) → Sums n []
-no-sums n = record { records = omega arith; handlers = omega arith; pool = omega arith; symbols = omega arith }
+unfolding total
+no-sums n = record { records = omega arith; handlers = omega arith; pool = omega arith; symbols = omega arith; children = omega arith }
 
 -- a record before the others
-one-more : (n : ℕ) (r : Rec) (rs : List Rec) → Small (r .body) → Sums n rs → Sums (suc n) (r ∷ rs)
-one-more n r rs x y =
+one-more : (n : ℕ) (r : Rec) (rs : List Rec) → SmallRec r → Sums n rs → Sums (suc n) (r ∷ rs)
+unfolding total
+one-more n r rs (x, few) y =
     record {
       records = omega arith;
       handlers = rw length-append (omega arith);
       pool = rw length-append (omega arith);
       symbols = rw length-append (omega arith);
+      children = omega (arith, few, y .children);
     }
 
 module _ (f : List ℕ) (bytes : (i : ℕ) → getD f i 0 < 256) (base : ℕ) where
@@ -67,12 +78,12 @@ module _ (f : List ℕ) (bytes : (i : ℕ) → getD f i 0 < 256) (base : ℕ) wh
         symbols = andThen-rows (λ l. length l ≤ 65535) (b .end) (counted f (symbolText f base)) (omega arith) (counted-small (symbolText f base));
       }
 
-  pub recordAt-small : (at : ℕ) → Small (recordAt f base at .it .body)
+  pub recordAt-small : (at : ℕ) → SmallRec (recordAt f base at .it)
   unfolding recordAt headAt
   recordAt-small at =
-      either (λ (x : Part Rec). Small (x .it .body)) (has f (at + 16) (headAt f at .ilen)) _ _
-      (λ _. bodyAt-small (headAt f at .clen) (at + 16 + headAt f at .ilen) (small16 (at + 10)))
-      (λ _. record { handlers = omega arith; pool = omega arith; symbols = omega arith })
+      either (λ (x : Part Rec). SmallRec (x .it)) (has f (at + 16) (headAt f at .ilen)) _ _
+      (λ _. (bodyAt-small (headAt f at .clen) (at + 16 + headAt f at .ilen) (small16 (at + 10)), small16 (at + 8)))
+      (λ _. (record { handlers = omega arith; pool = omega arith; symbols = omega arith }, small16 (at + 8)))
 
   -- the records from a place on, and the section's
   pub recordsFrom-sums : (size n at : ℕ) → Sums n (recordsFrom f base size n at .rows)

@@ -102,4 +102,4 @@ module _ (s : List ℕ) (names count : ℕ) where
   visit-done n k st h = walk-done (stepOf s names) kidsOf (usedUp s) (λ x. x .rec) (step-next s names) count (count - st .rec) n k st h
 
   pub visit-rec : (p : ℕ) (st st′ : State) → go st′ ≡ walkOf s names count p st → st .rec ≤ st′ .rec
-  visit-rec p st st′ e = walk-rec (stepOf s names) kidsOf (usedUp s) (λ x. x .rec) (step-next s names) count (count - st .rec) p st st′ (sym e)
+  visit-rec p st st′ e = walk-rec (stepOf s names) kidsOf (usedUp s) (λ x. x .rec) (step-next s names) count (count - st .rec) p st st′ (sym e) .0

@@ -16,12 +16,11 @@ use Rattle.format.specs.Lookup.{word}
 use Rattle.format.specs.Tree.{layout, whole}
 use Rattle.format.specs.Pattern.{Record, rlens}
 use Rattle.format.specs.Exam.{below, allBelow, operandsBelow, rangeBelow, bounded, follows, firstAt, at1718, exam1718, exam19, exam20, examineRecord, examineAll, examinePattern}
-use Rattle.format.proofs.RowsFrom.{rowsFrom-map}
+use Rattle.format.proofs.RowsFrom.{rowsFrom-map, rows-start, rows-turn, rows-end}
 use Rattle.flags.specs.Flags.{bare}
 use Rattle.exam.specs.View.{recordAt, patternAt, rlensAt}
 use Rattle.exam.specs.Part.{examinePart}
 use Rattle.scan.proofs.First.{first-none, first-some, first-assoc}
-use Rattle.exam.proofs.Rows.{rows-start, rows-turn, rows-end}
 
 -- of a record only the bytes and the counts matter to 17 and 18
 firstAt-same : (f g : ℕ → ℕ) → ((o : ℕ) → f o ≡ g o) → (bs : List ℕ) (left o : ℕ) → firstAt f bs left o ≡ firstAt g bs left o

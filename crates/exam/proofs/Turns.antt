@@ -15,7 +15,7 @@ use Rattle.format.specs.Pattern.{begins}
 use Rattle.format.specs.Exam.{firstOf}
 use Rattle.exam.specs.View.{targetAt, targets, entries}
 use Rattle.exam.specs.Part.{exam19Of}
-use Rattle.exam.proofs.Rows.{rows-start, rows-turn, rows-end}
+use Rattle.format.proofs.RowsFrom.{rows-start, rows-turn, rows-end}
 
 -- 19, at the row h
 pub record Caught (c hs : List ℕ) (i n h : ℕ) : Type 0 where

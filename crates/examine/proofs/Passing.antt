@@ -10,7 +10,7 @@ use lib.ListN.{length}
 use borrow.Author.Tests.{le-leb, ne-eqb}
 use Rattle.format.specs.Bytes.{Answer, ok, refused, bind}
 use Rattle.format.specs.File.{Content, nothing}
-use Rattle.format.specs.Load.{Nine, recordsOf, namesOf, filesOf, start, tablesOf, used, fits, Words, wordsOf, loading, laid, load}
+use Rattle.format.specs.Load.{Nine, recordsOf, namesOf, filesOf, start, tablesOf, counts, fits, Words, wordsOf, loading, laid, load}
 use Rattle.format.specs.Pattern.{patternOf}
 use Rattle.format.specs.Exam.{examinePattern, passing, examining}
 use Rattle.format.proofs.Table.{both}
@@ -21,7 +21,7 @@ use Rattle.exam.specs.View.{patternAt, Fits}
 use Rattle.sections.specs.declared.Used.{Used}
 use Rattle.file.specs.declared.Loaded.{Loaded}
 use Rattle.file.specs.declared.Loaded.the-variants as loaded
-use Rattle.rite.specs.Answers.{nineOf, loadedOf}
+use Rattle.rite.specs.Answers.{countsOf, loadedOf}
 use Rattle.examine.specs.Passing.{passingIn, refusalOf}
 use Rattle.examine.proofs.Loaded.{pattern-is, tables-fit}
 
@@ -29,7 +29,7 @@ use Rattle.examine.proofs.Loaded.{pattern-is, tables-fit}
 pub record Given (f : List ℕ) (m : Nine) (w : Words) (u : Used) : Type 0 where
   pub content : Content
   pub loads : loading f m ≡ ok content
-  pub counts : nineOf u ≡ used (tablesOf content)
+  pub counted : countsOf u ≡ counts content
   pub tables : w ≡ wordsOf m (tablesOf content)
 
 module _ (f : List ℕ) (m : Nine) (w : Words) (u : Used) where
@@ -38,14 +38,14 @@ module _ (f : List ℕ) (m : Nine) (w : Words) (u : Used) where
   given r e s = go (loading f m) refl (ap (λ x. loadedOf x w) (sym s) ∙ e)
     where
       go : (a : Answer Content) → loading f m ≡ a → loadedOf (loaded.Rows u) w ≡ laid m a → Given f m w u
-      go (ok c) q e = let x : ok (nineOf u) ≡ ok (used (tablesOf c)) = ap (λ l. l .answer) e in record { content = c; loads = q; counts = cc; tables = ap (λ l. l .tables) e }
-      go (refused n) q e = let x : ok (nineOf u) ≡ refused n = ap (λ l. l .answer) e in absurd (ok-refused (sym x))
+      go (ok c) q e = let x : ok (countsOf u) ≡ ok (counts c) = ap (λ l. l .answer) e in record { content = c; loads = q; counted = cc; tables = ap (λ l. l .tables) e }
+      go (refused n) q e = let x : ok (countsOf u) ≡ refused n = ap (λ l. l .answer) e in absurd (ok-refused (sym x))
 
   module _ (g : Given f m w u) where
     pub count-is : u .records ≡ length (recordsOf (g .content))
     count-is =
         let c = g .content in
-        ap (λ n. n .records) (g .counts) ∙ rows-length (recordsOf c) start (namesOf c) (filesOf c)
+        ap (λ n. n .rows .records) (g .counted) ∙ rows-length (recordsOf c) start (namesOf c) (filesOf c)
 
     pub fits-given : Fits f (w .records) (w .handlers) (w .lines) (u .records)
     fits-given = rw (g .tables, count-is) (tables-fit f m (g .content) (g .loads))
@@ -67,7 +67,7 @@ module _ (f : List ℕ) (m : Nine) (w : Words) (u : Used) where
 
       -- nothing is met: the rows stay
       pub went : k ≡ 0 → loadedOf (loaded.Rows u) w ≡ laid m (passingIn f m rows)
-      went z = let a = answer-is in rw (a, z, g .counts, g .tables)
+      went z = let a = answer-is in rw (a, z, g .counted, g .tables)
 
       -- a condition is met: the tables are cleared
       pub stopped : ¬ (k ≡ 0) → (w′ : Words) → w′ ≡ wordsOf m (tablesOf nothing) → loadedOf (loaded.Refused k) w′ ≡ laid m (passingIn f m rows)
@@ -80,7 +80,7 @@ unfolding load
 load-stopped f m w k rows r e s = go (loading f m) refl (ap (λ x. loadedOf x w) (sym s) ∙ e)
   where
     go : (a : Answer Content) → loading f m ≡ a → loadedOf (loaded.Refused k) w ≡ laid m a → loadedOf (loaded.Refused k) w ≡ laid m (passingIn f m rows)
-    go (ok c) q e = let x : refused k ≡ ok (used (tablesOf c)) = ap (λ l. l .answer) e in absurd (ok-refused x)
+    go (ok c) q e = let x : refused k ≡ ok (counts c) = ap (λ l. l .answer) e in absurd (ok-refused x)
     go (refused n) q e = e ∙ rw q
 
 -- at most 1,024 records are loaded, so a bound of 1,024 is none

@@ -10,7 +10,7 @@ use lib.ListN.{length, replicate}
 use borrow.Author.Tests.{leb-true, eqb-true}
 use Rattle.format.specs.Bytes.{Answer, ok, refused, bind, onAnswer}
 use Rattle.format.specs.File.{Content, nothing}
-use Rattle.format.specs.Load.{Nine, recordsOf, tablesOf, used, Words, wordsOf, loading, laid}
+use Rattle.format.specs.Load.{Nine, recordsOf, tablesOf, Counts, counts, Words, wordsOf, loading, laid}
 use Rattle.format.specs.Pattern.{patternOf}
 use Rattle.format.specs.Exam.{examinePattern, passing}
 use Rattle.format.specs.Run as format
@@ -20,7 +20,7 @@ use Rattle.exam.specs.View.{patternAt, Ready}
 use Rattle.sections.specs.declared.Used.{Used}
 use Rattle.file.specs.declared.Loaded.{Loaded}
 use Rattle.file.specs.declared.Loaded.the-variants as loaded
-use Rattle.rite.specs.Answers.{nineOf, loadedOf}
+use Rattle.rite.specs.Answers.{countsOf, loadedOf}
 use Rattle.run.specs.Follow.{out, followOut}
 use Rattle.examine.specs.Passing.{passingIn}
 use Rattle.examine.proofs.Passing.{Given, fits-given, pattern-given, count-is}
@@ -108,13 +108,13 @@ module _ (f : List ℕ) (m : Nine) (w : Words) (u : Used) (n : ℕ) (r : Loaded)
   has = go (passingIn f m (n / 2)) refl (ap (λ x. loadedOf x w) (sym rows) ∙ e)
     where
       go : (a : Answer Content) → passingIn f m (n / 2) ≡ a → loadedOf (loaded.Rows u) w ≡ laid m a → Has
-      go (refused k) q e = let x : ok (nineOf u) ≡ refused k = ap (λ l. l .answer) e in absurd (ok-refused (sym x))
+      go (refused k) q e = let x : ok (countsOf u) ≡ refused k = ap (λ l. l .answer) e in absurd (ok-refused (sym x))
       go (ok c) q e =
-          let x : ok (nineOf u) ≡ ok (used (tablesOf c)) = ap (λ l. l .answer) e in
+          let x : ok (countsOf u) ≡ ok (counts c) = ap (λ l. l .answer) e in
           record {
             c = c;
             ok-is = q;
-            given = record { content = c; loads = passed f m (n / 2) c q .loads; counts = cc; tables = ap (λ l. l .tables) e };
+            given = record { content = c; loads = passed f m (n / 2) c q .loads; counted = cc; tables = ap (λ l. l .tables) e };
             same = refl;
           }
 
@@ -181,9 +181,9 @@ unfolding follow format.frameTable format.laidFrames
 stopped f m w k n bs r e s t z = go (passingIn f m (n / 2)) refl (ap (λ x. loadedOf x w) (sym s) ∙ e)
   where
     go : (a : Answer Content) → passingIn f m (n / 2) ≡ a → loadedOf (loaded.Refused k) w ≡ laid m a → whole (refused k) w t ≡ follow f m n bs
-    go (ok c) q e = let x : refused k ≡ ok (used (tablesOf c)) = ap (λ l. l .answer) e in absurd (ok-refused x)
+    go (ok c) q e = let x : refused k ≡ ok (counts c) = ap (λ l. l .answer) e in absurd (ok-refused x)
     go (refused i) q e =
-        let x : _≡_ {A = Answer Nine} (refused k) (refused i) = ap (λ l. l .answer) e in
+        let x : _≡_ {A = Answer Counts} (refused k) (refused i) = ap (λ l. l .answer) e in
         let j : following f m n bs ≡ refused i = following-is f m n bs ∙ ap (λ a. bind a (ran f bs)) q in
         let same : k ≡ i = cc in
         let none-of : n ≡ n - 2 * 0 = omega arith in

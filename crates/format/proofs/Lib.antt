@@ -9,3 +9,4 @@ pub mod Registers
 pub mod Prefix
 pub mod RowsFrom
 pub mod Places
+pub mod Walk

@@ -12,6 +12,7 @@ use Rattle.format.specs.Reading.{Part}
 use Rattle.format.specs.Rows.{Range, range, RecordRow, HandlerRow, PoolRow, TextRow, NameRow, FileRow, LineRow, recordWords, handlerWords}
 use Rattle.format.specs.Rows.{poolWords, textWords, nameWords, fileWords, lineWords, tableOf}
 use Rattle.format.specs.Irep.{Rec}
+use Rattle.format.specs.Walk.{visits}
 use Rattle.format.specs.Lvar.{Lvar}
 use Rattle.format.specs.Debug.{File, Debug}
 use Rattle.format.specs.File.{Content, nothing, fileReading}
@@ -153,6 +154,18 @@ used t =
       lines = length (t .lines);
     }
 
+-- Paper 02, m): "the number of visits that the LVAR walk made. .. Without an LVAR section it is 0". DBG's walk is not counted.
+abbrev pub visitsOf : Content → ℕ
+visitsOf c = elim (c .lvar) [ none ↦ 0 | some _ ↦ visits (recordsOf c) 1 ]
+
+-- "The load result carries the number of visits": the rows used, and the visits
+pub record Counts : Type 0 where
+  pub rows : Nine
+  pub visits : ℕ
+
+abbrev pub counts : Content → Counts
+counts c = record { rows = used (tablesOf c); visits = visitsOf c }
+
 -- every row that was needed is there: in tables of so many words, and among so many records
 unfoldable pub fits : ℕ → Nine → Nine → Bool
 fits limit m u =
@@ -203,13 +216,13 @@ wordsOf m t =
 
 -- what a load answers, and what the tables hold afterwards: after a refusal zeros alone
 pub record Loaded : Type 0 where
-  pub answer : Answer Nine
+  pub answer : Answer Counts
   pub tables : Words
 
 abbrev pub laid : Nine → Answer Content → Loaded
 laid m a =
     onAnswer a
-    (λ c. record { answer = ok (used (tablesOf c)); tables = wordsOf m (tablesOf c) })
+    (λ c. record { answer = ok (counts c); tables = wordsOf m (tablesOf c) })
     (λ e. record { answer = refused e; tables = wordsOf m (tablesOf nothing) })
 
 unfoldable pub load : List ℕ → Nine → Loaded

@@ -1,5 +1,5 @@
 -- The walk over the records, for LVAR and DBG alike. Paper 01, 'Loading': "the walk from record 0"; a visited record is read, "then its
--- rlen children are visited in turn; a visit past the last record reads nothing".
+-- rlen children are visited in turn; a visit past the last record reads nothing". Paper 02, m): how many visits it makes.
 -- Assumes nothing.
 use Prim.Native.Nat.{ℕ, zero, suc, _+_}
 use mathlib.Core.Bool.{Bool, cond}
@@ -16,3 +16,10 @@ walk visit spent (r ∷ rs) zero at = reading [] (ok at)
 walk visit spent (r ∷ rs) (suc pending) at =
     cond (spent at) (reading [] (ok at))
     (let v = visit r at in add (v .it) (andThen (v .end) (walk visit spent rs (r .head .rlen + pending))))
+
+-- Paper 02, m): "the number of visits that the .. walk made, those past the last record included". The records left are rs, and `pending` visits
+-- are still to be made, as in `walk`: where no record is left, each of them is made and reads nothing.
+unfoldable pub visits : List Rec → ℕ → ℕ
+visits [] pending = pending
+visits (r ∷ rs) zero = 0
+visits (r ∷ rs) (suc pending) = suc (visits rs (r .head .rlen + pending))

@@ -30,7 +30,8 @@ use Rattle.runs.proofs.Refusal.{passes-iff}
 use Rattle.runs.proofs.Frame.{stack-frames, stack-falls, stack-few, run-stack, done-iff, top-is}
 use Rattle.laws.proofs.Walk as walk
 
-pattern-rlens : (f : List ℕ) (rs : List Rec) (fss : List (List File)) → rlens (recordsWith f rs fss) ≡ walk.rlens rs
+-- the children's numbers, of a pattern and of the records that it is made of
+pub pattern-rlens : (f : List ℕ) (rs : List Rec) (fss : List (List File)) → rlens (recordsWith f rs fss) ≡ walk.rlens rs
 pattern-rlens f [] fss = refl
 pattern-rlens f (r ∷ rs) fss = ap (λ l. r .head .rlen ∷ l) (pattern-rlens f rs (drop 1 fss))
 

@@ -13,7 +13,7 @@ use lib.ListN.{length, getD}
 use borrow.Author.Tests.{ne-eqb}
 use Rattle.format.specs.Bytes.{Answer, ok, refused, refuse, first}
 use Rattle.format.specs.File.{Content}
-use Rattle.format.specs.Load.{Nine, tablesOf, used, loading}
+use Rattle.format.specs.Load.{Nine, Counts, counts, loading}
 use Rattle.format.specs.Tree.{Whole, whole}
 use Rattle.format.specs.Pattern.{Record, Pattern, patternOf, recAt, blank, rlens}
 use Rattle.format.specs.Exam.{Meets, Passes, exam16, exam1718, exam19, exam20, examineRecord, examineAll, examinePattern, passing, examining, examine}
@@ -96,8 +96,8 @@ in-order p n e = go (which (refuse 15 (whole (rlens p))) (examineAll p) n e)
 
 -- of a file that loads
 module _ (f : List ℕ) (m : Nine) (c : Content) (l : loading f m ≡ ok c) where
-  abbrev given : ℕ → Answer Nine
-  given zero = ok (used (tablesOf c))
+  abbrev given : ℕ → Answer Counts
+  given zero = ok (counts c)
   given (suc k) = refused (suc k)
 
   -- the answer, by the number of the pattern's examination
@@ -123,9 +123,9 @@ module _ (f : List ℕ) (m : Nine) (c : Content) (l : loading f m ≡ ok c) wher
       go (suc k) q = subst (λ x. InOrder (patternOf f c) x) (refused-same (sym (answer-is (suc k) q) ∙ e)) (in-order (patternOf f c) k q)
 
   -- it passes exactly where none of 15 to 20 and 25 is met, and answers the rows used
-  pub passes-exactly : (examine f m .answer ≡ ok (used (tablesOf c))) ↔ Passes (patternOf f c)
+  pub passes-exactly : (examine f m .answer ≡ ok (counts c)) ↔ Passes (patternOf f c)
   passes-exactly = (λ e. passes-iff (patternOf f c) .0 (go e (examinePattern (patternOf f c)) refl), λ p. answer-is 0 (passes-iff (patternOf f c) .1 p))
     where
-      go : examine f m .answer ≡ ok (used (tablesOf c)) → (k : ℕ) → examinePattern (patternOf f c) ≡ k → examinePattern (patternOf f c) ≡ 0
+      go : examine f m .answer ≡ ok (counts c) → (k : ℕ) → examinePattern (patternOf f c) ≡ k → examinePattern (patternOf f c) ≡ 0
       go e zero q = q
       go e (suc k) q = absurd (ok-refused (sym (answer-is (suc k) q) ∙ e))

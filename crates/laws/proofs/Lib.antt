@@ -5,6 +5,7 @@ pub mod Walk
 pub mod Audit
 pub mod Exact
 pub mod Demand3
+pub mod Visits
 pub mod Numbers
 pub mod Tests
 pub mod Endings

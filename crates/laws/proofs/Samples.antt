@@ -1,23 +1,23 @@
 -- Paper 01's starred samples, as one table of the definitions, with some that it does not star, those of ident and size as paper 02's g) has them,
 -- constants as its d) reads them, newer opcodes as its c) and prefixes as its b) do; and sample A as a file that passes.
 -- Assumes nothing.
-use Prim.Native.Nat.{ℕ}
+use Prim.Native.Nat.{ℕ, _/_, _%_}
 use mathlib.Core.Path.{_≡_, refl}
 use mathlib.Core.Bool.{true, false}
 use mathlib.Core.List.{List, [], _∷_, _++_}
 use mathlib.Core.Option.{none, some}
 use lib.IntN.{pos, negsuc}
-use lib.ListN.{replicate, take, set}
+use lib.ListN.{replicate, take, drop, set}
 use Rattle.format.specs.Bytes.{Answer, ok, refused, step, noZero, int64At}
 use Rattle.format.specs.Rows.{textRow, lineRow}
 use Rattle.format.specs.Insn.{Z, W, S, table, row, operands, opcode, rest, lastOf, jump, target, insn, fetchAs, fetch}
 use Rattle.format.specs.Irep.{handler, poolText, symbolText, bigInteger, poolValue, poolEntry, counted, headAt, bodyAt, recordAt, recordsFrom, irepSection}
-use Rattle.format.specs.Walk.{walk}
+use Rattle.format.specs.Walk.{walk, visits}
 use Rattle.format.specs.Lvar.{plainText, nameEntry, recordNames, lvarSection}
 use Rattle.format.specs.Packed.{packedFrom, packed, packedEntry}
 use Rattle.format.specs.Debug.{fileHead, mapEntry, mapLines, filesFrom, debugRecord, debugContent, debugSection}
 use Rattle.format.specs.File.{endSection, sectionAt, sections, fileRefusal, fileReading}
-use Rattle.format.specs.Load.{Nine, fits, ending, loading, load}
+use Rattle.format.specs.Load.{Nine, Counts, fits, ending, loading, load}
 use Rattle.format.specs.Registers.{comments, form}
 use Rattle.format.specs.Line.{halve, lineAt, rising}
 use Rattle.format.specs.Lookup.{recordIn, rowIn, bytesIn, Constant, text, int, constantAt, constantOf, pool}
@@ -65,6 +65,10 @@ fileD =
 lentPool : ℕ → ℕ → Nine
 lentPool n k = record { records = n; handlers = 0; pool = k; symbols = 0; strings = 0; names = 0; fileNames = 0; files = 0; lines = 0 }
 
+-- what a load answers of a file without LVAR: rows as these, and no visit
+unvisited : Nine → Counts
+unvisited n = record { rows = n; visits = 0 }
+
 -- constant j of D, over the tables that its load leaves
 constantD : ℕ → Answer Constant
 constantD j = let t = load fileD (lentPool 19 6) .tables in pool fileD (t .records) (t .pool) 0 j
@@ -87,24 +91,47 @@ family c =
 oval : List ℕ → List Record
 oval c = record { nregs = 300; rlen = 0; npool = 300; nsyms = 300; code = c ++ 118 ∷ []; handlers = []; lines = [] } ∷ []
 
+-- Paper 02, m): A with so many children, at most 65,535, and an LVAR section of no strings behind its only record, which has no name to take
+fileM : ℕ → List ℕ
+fileM n = set (set (take 56 fileA) 40 (n / 256)) 41 (n % 256) ++ 76 ∷ 86 ∷ 65 ∷ 82 ∷ 0 ∷ 0 ∷ 0 ∷ 12 ∷ 0 ∷ 0 ∷ 0 ∷ 0 ∷ drop 56 fileA
+
+-- the same with A's record twice, of which the second has no children; and without any, in an IREP section of 12 bytes
+twoM : ℕ → List ℕ
+twoM n = set (take 56 (fileM n)) 27 60 ++ drop 32 (take 56 fileA) ++ drop 56 (fileM n)
+
+noneM : List ℕ
+noneM = set (take 32 (sized 52)) 27 12 ++ drop 56 (fileM 0)
+
+-- so many records, and visits
+visited : ℕ → ℕ → Counts
+visited n k = record { rows = lent n; visits = k }
+
 record Table : Type 0 where
-  a-loads : load fileA (lent 38) .answer ≡ ok (lent 1)
+  a-loads : load fileA (lent 38) .answer ≡ ok (unvisited (lent 1))
   a-row : load fileA (lent 38) .tables .records ≡ 24 ∷ 1 ∷ 2 ∷ 0 ∷ 0 ∷ 4 ∷ 48 ∷ replicate 31 0
-  a-three-zeros : load (fileA ++ replicate 3 0) (lent 38) .answer ≡ ok (lent 1)
+  a-three-zeros : load (fileA ++ replicate 3 0) (lent 38) .answer ≡ ok (unvisited (lent 1))
   a-four-zeros : load (fileA ++ replicate 4 0) (lent 38) .answer ≡ refused 5
-  end-loads : load (endAlone 31 12) (lent 38) .answer ≡ ok (lent 0)
+  end-loads : load (endAlone 31 12) (lent 38) .answer ≡ ok (unvisited (lent 0))
   end-no-tree : examine (endAlone 31 12) (lent 38) .answer ≡ refused 15
   end-of-size-0 : load (endAlone 31 0) (lent 38) .answer ≡ refused 8
   end-of-31-bytes : load (take 31 (endAlone 31 12)) (lent 38) .answer ≡ refused 4
   end-states-32 : load (take 31 (endAlone 32 12)) (lent 38) .answer ≡ refused 28
-  a-states-0 : load (sized 0) (lent 38) .answer ≡ ok (lent 1)
-  a-states-63 : load (sized 63) (lent 38) .answer ≡ ok (lent 1)
+  a-states-0 : load (sized 0) (lent 38) .answer ≡ ok (unvisited (lent 1))
+  a-states-63 : load (sized 63) (lent 38) .answer ≡ ok (unvisited (lent 1))
   a-states-65 : load (sized 65) (lent 38) .answer ≡ refused 28
   a-low-byte-first : load (set (sized 0) 8 64) (lent 38) .answer ≡ refused 28
   a-no-ident : load (set fileA 3 70) (lent 38) .answer ≡ refused 27
   ident-before-size : load (set (sized 65) 0 114) (lent 38) .answer ≡ refused 27
   size-before-major : load (set (sized 65) 5 51) (lent 38) .answer ≡ refused 28
-  d-loads : load fileD (lentPool 19 6) .answer ≡ ok (lentPool 1 2)
+  m-whole : load (fileM 0) (lent 38) .answer ≡ ok (visited 1 1)
+  m-past-the-last : load (fileM 3) (lent 38) .answer ≡ ok (visited 1 4)
+  m-most-of-one : load (fileM 65535) (lent 38) .answer ≡ ok (visited 1 65536)
+  m-two-whole : load (twoM 1) (lent 38) .answer ≡ ok (visited 2 2)
+  m-not-reached : load (twoM 0) (lent 38) .answer ≡ ok (visited 2 1)
+  m-both-reached : load (twoM 300) (lent 38) .answer ≡ ok (visited 2 301)
+  m-no-records : load noneM (lent 38) .answer ≡ ok (visited 0 1)
+  m-passes : examine (twoM 1) (lent 38) .answer ≡ ok (visited 2 2)
+  d-loads : load fileD (lentPool 19 6) .answer ≡ ok (unvisited (lentPool 1 2))
   d-rows : load fileD (lentPool 19 6) .tables .pool ≡ 3 ∷ 55 ∷ 8 ∷ 0 ∷ 66 ∷ 3 ∷ []
   d-int64 : constantD 0 ≡ ok (int (pos 258))
   d-string : constantD 1 ≡ ok (text (textRow 66 3))
@@ -205,7 +232,7 @@ record Table : Type 0 where
   no-records : examinePattern [] ≡ 15
   a-content : loading fileA (lent 38) ≡ ok (fileReading fileA .it)
   a-meets-none : examinePattern (patternOf fileA (fileReading fileA .it)) ≡ 0
-  a-passes : examine fileA (lent 38) .answer ≡ ok (lent 1)
+  a-passes : examine fileA (lent 38) .answer ≡ ok (unvisited (lent 1))
   a-goes-on : follow fileA (lent 38) 2 (0 ∷ []) .answer ≡ ok (stands (frame 0 2) none 1)
   a-frames : follow fileA (lent 38) 5 (0 ∷ []) .frames ≡ 0 ∷ 2 ∷ 0 ∷ 0 ∷ 0 ∷ []
   a-finishes : follow fileA (lent 38) 2 (0 ∷ 0 ∷ []) .answer ≡ ok finished
@@ -217,9 +244,9 @@ record Table : Type 0 where
 
 samples : Table
 unfolding table row operands opcode rest lastOf jump target fetchAs fetch packedFrom packed halve lineAt handler poolText symbolText bigInteger poolValue
-    poolEntry counted headAt bodyAt recordAt recordsFrom irepSection walk noZero plainText nameEntry recordNames lvarSection fileHead mapEntry
+    poolEntry counted headAt bodyAt recordAt recordsFrom irepSection walk visits noZero plainText nameEntry recordNames lvarSection fileHead mapEntry
     mapLines filesFrom debugRecord debugContent debugSection packedEntry endSection sectionAt sections fileRefusal fileReading fits ending loading load sized
-    endAlone lent alone family oval fileD lentPool constantD zeroInside recordIn rowIn bytesIn constantAt constantOf pool
+    endAlone lent unvisited alone family oval fileD lentPool constantD fileM twoM noneM visited zeroInside recordIn rowIn bytesIn constantAt constantOf pool
     rising layout span childOf reach lands stray readable below allBelow operandsBelow rangeBelow bounded comments form follows firstAt firstOf exam16 exam1718 exam19 exam20 examineRecord
     examineAll examinePattern passing examining examine childOperand move oneStep runFrom choicesFrom standing laidFrames frameTable following follow
 samples = record {
@@ -239,6 +266,14 @@ samples = record {
   a-no-ident = refl;
   ident-before-size = refl;
   size-before-major = refl;
+  m-whole = refl;
+  m-past-the-last = refl;
+  m-most-of-one = refl;
+  m-two-whole = refl;
+  m-not-reached = refl;
+  m-both-reached = refl;
+  m-no-records = refl;
+  m-passes = refl;
   d-loads = refl;
   d-rows = refl;
   d-int64 = refl;

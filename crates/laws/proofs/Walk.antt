@@ -5,7 +5,7 @@ use native.Mathlib.Nat.{le-of-suc-le-suc}
 use native.Mathlib.Omega.{arith}
 use mathlib.Core.Path.{_≡_, refl, ap}
 use mathlib.Core.Bool.{Bool, true, false, cond}
-use mathlib.Core.List.{List, [], _∷_, map}
+use mathlib.Core.List.{List, [], _∷_}
 use mathlib.Core.Option.{Option, none, some}
 use lib.Dec.{leb, eqb}
 use lib.ListN.{length, getD, take, drop, length-map}
@@ -22,11 +22,8 @@ use Rattle.format.specs.File.{Content, content, isMark, endSection, once, after
 use Rattle.format.specs.Load.{recordsOf, namesOf}
 use Rattle.format.specs.Tree.{total, Whole}
 use Rattle.format.proofs.Answers.{ok-refused, inTurn-all}
+pub use Rattle.format.proofs.Walk.{rlens}
 use Rattle.layout.proofs.Ends.{reading-keeps}
-
--- the children's numbers, of each record
-abbrev pub rlens : List Rec → List ℕ
-rlens rs = map (λ (r : Rec). r .head .rlen) rs
 
 -- Every record of rs is visited once, in order: record 0 at `from`, each other where the visit before it ended, and the last visit ends at
 -- `to`. List i is what the visit of record i read.
@@ -119,15 +116,19 @@ recordNames-named f count r at to e = go (eqb (r .head .nlocals) 0) refl e
         let all = inTurn-all (nameEntry f count) (r .head .nlocals - 1) at to e in
         omega arith
 
--- an LVAR section that nothing refuses: "A visited record takes nlocals - 1 entries"
-pub names-count : (f : List ℕ) (base : ℕ) (rs : List Rec) (to : ℕ) → Whole (rlens rs) → lvarSection f base rs .end ≡ ok to
-    → (i : ℕ) (d : Rec) → i < length rs → Named (getD rs i d) (getD (lvarSection f base rs .it .names) i [])
+-- where the walk of an LVAR section that nothing refuses begins and ends; its lists are the section's names
+pub record Walked (f : List ℕ) (base : ℕ) (rs : List Rec) : Type 0 where
+  pub at : ℕ
+  pub end : ℕ
+  pub ends : walk (recordNames f (u32At f 8)) (λ _. false) rs 1 at .end ≡ ok end
+  pub names : lvarSection f base rs .it .names ≡ walk (recordNames f (u32At f 8)) (λ _. false) rs 1 at .rows
+
+pub lvar-walked : (f : List ℕ) (base : ℕ) (rs : List Rec) (to : ℕ) → lvarSection f base rs .end ≡ ok to → Walked f base rs
 unfolding lvarSection
-names-count f base rs to w e i d h =
-    go (has f 0 12) (inTurn (plainText f base) (u32At f 8) 12) e
+lvar-walked f base rs to e = go (has f 0 12) refl (inTurn (plainText f base) (u32At f 8) 12) refl e
   where
-    visit : Rec → ℕ → Part (List NameRow)
-    visit = recordNames f (u32At f 8)
+    visit : ℕ → Read (List NameRow)
+    visit = walk (recordNames f (u32At f 8)) (λ _. false) rs 1
 
     -- the section's size, tested after the content
     sized : Answer ℕ
@@ -136,26 +137,26 @@ names-count f base rs to w e i d h =
     lvar : List TextRow → Read (List NameRow) → Part Lvar
     lvar s n = part (record { strings = s; names = n .rows }) (bind (n .end) (λ _. sized))
 
-    named : (at to : ℕ) → walk visit (λ _. false) rs 1 at .end ≡ ok to → Named (getD rs i d) (getD (walk visit (λ _. false) rs 1 at .rows) i [])
-    named at to e =
-        let v = every-visited visit rs at to w e in
-        rw (v .read i d h) (recordNames-named f (u32At f 8) (getD rs i d) (v .place i) (v .place (suc i)) (v .next i d h))
-
-    walked : (at : ℕ) (a : Answer ℕ) → walk visit (λ _. false) rs 1 at .end ≡ a → bind a (λ _. sized) ≡ ok to
-        → Named (getD rs i d) (getD (walk visit (λ _. false) rs 1 at .rows) i [])
-    walked at (ok end) q e = named at end q
-    walked at (refused k) q e = absurd (ok-refused e)
-
-    go : (b : Bool) (s : Read TextRow)
-        → cond b (lvar (s .rows) (andThen (s .end) (walk visit (λ _. false) rs 1))) (part (record { strings = []; names = [] }) (refused 7)) .end ≡ ok to
-        → Named (getD rs i d) (getD (cond b (lvar (s .rows) (andThen (s .end) (walk visit (λ _. false) rs 1))) (part (record { strings = []; names = [] }) (refused 7)) .it .names) i [])
-    go false s e = absurd (ok-refused e)
-    go true s e = strings (s .end) e
+    go : (b : Bool) → has f 0 12 ≡ b → (s : Read TextRow) → inTurn (plainText f base) (u32At f 8) 12 ≡ s
+        → cond b (lvar (s .rows) (andThen (s .end) visit)) (part (record { strings = []; names = [] }) (refused 7)) .end ≡ ok to → Walked f base rs
+    go false h s r e = absurd (ok-refused e)
+    go true h s r e = strings (s .end) refl e
       where
-        strings : (a : Answer ℕ) → bind (andThen a (walk visit (λ _. false) rs 1) .end) (λ _. sized) ≡ ok to
-            → Named (getD rs i d) (getD (andThen a (walk visit (λ _. false) rs 1) .rows) i [])
-        strings (refused k) e = absurd (ok-refused e)
-        strings (ok at) e = walked at (walk visit (λ _. false) rs 1 at .end) refl e
+        strings : (a : Answer ℕ) → s .end ≡ a → bind (andThen a visit .end) (λ _. sized) ≡ ok to → Walked f base rs
+        strings (refused k) p e = absurd (ok-refused e)
+        strings (ok at) p e = walked (visit at .end) refl e
+          where
+            walked : (a : Answer ℕ) → visit at .end ≡ a → bind a (λ _. sized) ≡ ok to → Walked f base rs
+            walked (refused k) q e = absurd (ok-refused e)
+            walked (ok end) q e = record { at = at; end = end; ends = q; names = rw (h, r, p) }
+
+-- an LVAR section that nothing refuses: "A visited record takes nlocals - 1 entries"
+pub names-count : (f : List ℕ) (base : ℕ) (rs : List Rec) (to : ℕ) → Whole (rlens rs) → lvarSection f base rs .end ≡ ok to
+    → (i : ℕ) (d : Rec) → i < length rs → Named (getD rs i d) (getD (lvarSection f base rs .it .names) i [])
+names-count f base rs to w e i d h =
+    let x = lvar-walked f base rs to e in
+    let v = every-visited (recordNames f (u32At f 8)) rs (x .at) (x .end) w (x .ends) in
+    rw (x .names, v .read i d h) (recordNames-named f (u32At f 8) (getD rs i d) (v .place i) (v .place (suc i)) (v .next i d h))
 
 -- what was read of an LVAR section, at a place of the file and behind the records rs, where that ended well
 pub record LvarAt (f : List ℕ) (rs : List Rec) (l : Lvar) : Type 0 where
@@ -165,7 +166,7 @@ pub record LvarAt (f : List ℕ) (rs : List Rec) (l : Lvar) : Type 0 where
   pub it : lvarSection (drop at f) at rs .it ≡ l
 
 -- LVAR comes only behind IREP
-abbrev LvarOf : List ℕ → Option (List Rec) → Option Lvar → Type 0
+abbrev pub LvarOf : List ℕ → Option (List Rec) → Option Lvar → Type 0
 LvarOf f none none = Unit {0}
 LvarOf f (some rs) none = Unit {0}
 LvarOf f none (some l) = ⊥
@@ -209,7 +210,7 @@ module _ (f : List ℕ) (at size : ℕ) where
       by-mark false false false true = λ e. x
       by-mark false false false false = λ e. x
 
-reading-lvar : (f : List ℕ) (to : ℕ) → fileReading f .end ≡ ok to → LvarOf f (fileReading f .it .irep) (fileReading f .it .lvar)
+pub reading-lvar : (f : List ℕ) (to : ℕ) → fileReading f .end ≡ ok to → LvarOf f (fileReading f .it .irep) (fileReading f .it .lvar)
 reading-lvar f to e =
     reading-keeps f (λ c. LvarOf f (c .irep) (c .lvar)) (λ c at x size q. good-section f at size (c .irep) (c .lvar) (c .dbg) x q) tt to e
 

@@ -6,25 +6,28 @@ use mathlib.Core.Path.{_≡_, refl, sym}
 use mathlib.Core.Bool.{Bool, true, false, cond}
 use mathlib.Core.List.{List, [], _∷_, _++_, append-assoc, append-nil}
 use lib.Dec.{eqb, leb}
-use lib.ListN.{length, length-append}
+use lib.ListN.{length, take, length-append}
 use Rattle.format.specs.Bytes as bytes
 use Rattle.format.specs.Bytes.{Answer, ok, refused, has, u32At}
 use Rattle.format.specs.Reading.{Read, Part, part, add, andThen, inTurn}
 use Rattle.format.specs.Rows.{TextRow, NameRow, recordWords, textWords, nameWords, tableOf}
 use Rattle.format.specs.Irep.{Rec}
 use Rattle.format.specs.Walk as format
+use Rattle.format.specs.Walk.{visits}
+use Rattle.format.specs.Line.{rowsFrom}
 use Rattle.format.specs.Lvar.{Lvar, plainText, nameEntry, recordNames, lvarSection}
 use Rattle.format.specs.Debug.{File}
 use Rattle.format.specs.Load.{joined, start, recordRows, Nine}
 use Rattle.format.proofs.Answers.{inTurn-all}
 use Rattle.format.proofs.Places.{joined-append, joined-snoc, record-word, names-put}
+use Rattle.format.proofs.Walk.{rlens, span-most, walk-span, walk-visits}
 use Rattle.rows.specs.declared.Rows.the-variants as rows
 use Rattle.rows.specs.Table.{out, rowCount, firstOf, times}
 use Rattle.rows.specs.Rows.{stringOf, nameOf}
 use Rattle.rows.specs.Walk.{Run, go, stop, bind, walk}
 use Rattle.rows.proofs.Join.{Ran, RowsRan, times-ran, string-agrees, name-agrees}
 use Rattle.lvar.specs.declared.Lvar.the-variants as lvar
-use Rattle.lvar.specs.Names.{Tables, State, state, nlocalsOf, rlenOf, putNames, withNames, lvStep, lvKids, never}
+use Rattle.lvar.specs.Names.{Tables, State, state, nlocalsOf, rlenOf, putNames, withNames, lvStep, lvKids, never, visitsOver, inWord}
 use Rattle.lvar.specs.Section.{Filled, filled, endOf, walked, lvarOf}
 
 -- the walk, with so many words for the records and for the names
@@ -136,6 +139,27 @@ module _ (f : List ℕ) (strings m k : ℕ) (fss : List (List File)) where
       (walk-ran rs (qs ++ r ∷ []) (nss ++ inTurn (nameEntry f strings) (r .head .nlocals - 1) at .rows ∷ []) (r .head .rlen + pending) a (rw (length-append, length-append, e)) y))
       (eqb (r .head .nlocals) 0) refl
 
+  -- the rlens that the table says of the first k records behind qs
+  table-rlens : (k : ℕ) (qs rs : List Rec) (nss : List (List NameRow)) → k ≤ length rs
+      → rowsFrom (rlenOf (R (qs ++ rs) nss)) (length qs) k ≡ take k (rlens rs)
+  unfolding rowsFrom
+  table-rlens zero qs rs nss h = refl
+  table-rlens (suc k) qs [] nss h = absurd (omega arith)
+  table-rlens (suc k) qs (r ∷ rs) nss h =
+      let n : length (qs ++ r ∷ []) ≡ suc (length qs) = rw length-append (omega arith) in
+      let here : rlenOf (R (qs ++ r ∷ rs) nss) (length qs) ≡ r .head .rlen = record-word m start qs r rs nss fss 3 (omega arith) in
+      let next = rw (append-assoc qs (r ∷ []) rs, n) at (table-rlens k (qs ++ r ∷ []) rs nss (omega arith)) in
+      rw (here, next)
+
+  -- the visits over the table, where nothing refuses the walk
+  pub table-visits : (rs : List Rec) (at to : ℕ) → let n = reading-of rs 1 at in
+      n .end ≡ ok to → visitsOver (R rs (n .rows)) (length (n .rows)) ≡ visits rs 1
+  table-visits rs at to e =
+      let ns = reading-of rs 1 at .rows in
+      let n = walk-span (recordNames f strings) rs 1 at to e in
+      let few : length ns ≤ length rs = omega (arith, n, span-most rs 1) in
+      rw (table-rlens (length ns) [] rs ns few) (omega (arith, walk-visits (recordNames f strings) rs 1 at to e))
+
 -- the section: m has the sizes of the tables
 module _ (m : Nine) (f : List ℕ) (base : ℕ) (rs : List Rec) (fss : List (List File)) where
   abbrev O : Filled
@@ -153,7 +177,7 @@ module _ (m : Nine) (f : List ℕ) (base : ℕ) (rs : List Rec) (fss : List (Lis
       Ran (P .end) (Room (P .it))
       (λ size.
       O
-      ≡ filled (lvar.Next size (length (P .it .strings)) (length (joined (P .it .names))))
+      ≡ filled (lvar.Next size (length (P .it .strings)) (length (joined (P .it .names))) (inWord (visits rs 1)))
       (tableOf recordWords (m .records) (recordRows start rs (P .it .names) fss))
       (tableOf textWords (m .strings) (P .it .strings))
       (tableOf nameWords (m .names) (joined (P .it .names))))
@@ -191,7 +215,8 @@ module _ (m : Nine) (f : List ℕ) (base : ℕ) (rs : List Rec) (fss : List (Lis
           → (c e : Bool) → eqb (u32At f 4) 0 ≡ c → leb (u32At f 4) (length f) ≡ e → SectionRan
       unfolding endOf
       by-end b q y g true e z l = rw (section-is, part-is, q, g, z) (Ran.stop 8 refl (x, y) refl)
-      by-end b q y g false true z l = rw (section-is, part-is, q, g, z, l) (Ran.went (u32At f 4) refl (x, y) refl)
+      by-end b q y g false true z l =
+          rw (section-is, part-is, q, g, z, l) (Ran.went (u32At f 4) refl (x, y) (rw (table-visits f (u32At f 8) (m .records) (m .names) fss rs a b q)))
       by-end b q y g false false z l = rw (section-is, part-is, q, g, z, l) (Ran.stop 7 refl (x, y) refl)
 
       by-walk : WalkRan f (u32At f 8) (m .records) (m .names) fss rs [] (W a) (run a) → SectionRan

@@ -57,7 +57,10 @@ module _ (f : List ℕ) (strings count : ℕ) where
   lv-done n k st h = walk-done (lvStep f strings) lvKids never (λ x. x .rec) (lv-next f strings) count (count - st .rec) n k st h
 
   pub lv-rec : (p : ℕ) (st st′ : State) → go st′ ≡ lvWalk f strings count p st → st .rec ≤ st′ .rec
-  lv-rec p st st′ e = walk-rec (lvStep f strings) lvKids never (λ x. x .rec) (lv-next f strings) count (count - st .rec) p st st′ (sym e)
+  lv-rec p st st′ e = walk-rec (lvStep f strings) lvKids never (λ x. x .rec) (lv-next f strings) count (count - st .rec) p st st′ (sym e) .0
+
+  pub lv-inside : (p : ℕ) (st st′ : State) → st .rec ≤ count → go st′ ≡ lvWalk f strings count p st → st′ .rec ≤ count
+  lv-inside p st st′ h e = omega (arith, walk-rec (lvStep f strings) lvKids never (λ x. x .rec) (lv-next f strings) count (count - st .rec) p st st′ (sym e) .1)
 
 -- the section: its header or its string count is cut, its strings are read, its walk is made
 module _ (f : List ℕ) (base count : ℕ) (rs ss ns : List ℕ) where

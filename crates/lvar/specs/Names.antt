@@ -1,10 +1,12 @@
--- The LVAR walk over a table of records and a table of names: each visited record takes nlocals - 1 entries.
+-- The LVAR walk over a table of records and a table of names: each visited record takes nlocals - 1 entries; and how many visits it makes.
 -- Assumes nothing.
-use Prim.Native.Nat.{ℕ, _+_, _*_, _-_}
+use Prim.Native.Nat.{ℕ, suc, _+_, _*_, _-_, _%_}
 use mathlib.Core.Bool.{Bool, false, cond}
 use mathlib.Core.List.{List}
 use lib.Dec.{eqb}
 use lib.ListN.{getD, set}
+use Rattle.format.specs.Line.{rowsFrom}
+use Rattle.format.specs.Tree.{total}
 use Rattle.rows.specs.Table.{Out, onRows, firstOf, times}
 use Rattle.rows.specs.Rows.{nameOf}
 use Rattle.rows.specs.Walk.{Run, go, stop, walk}
@@ -69,3 +71,11 @@ never st = false
 -- the walk over `count` records with so many visits to make
 abbrev pub lvWalk : List ℕ → ℕ → ℕ → ℕ → State → Run State Tables
 lvWalk f strings count pending st = walk (lvStep f strings) lvKids never (count - st .rec) pending st
+
+-- "1 plus the rlens of the records visited", which are the first n
+abbrev pub visitsOver : List ℕ → ℕ → ℕ
+visitsOver rs n = suc (total (rowsFrom (rlenOf rs) 0 n))
+
+-- what a word holds of a number
+abbrev pub inWord : ℕ → ℕ
+inWord n = n % 4294967296

@@ -9,7 +9,7 @@ use rows::read_rows;
 ghost use mathlib.Core.Path.{_≡_};
 ghost use Prim.Native.Nat.{_+_, _*_, _≤_, _<_};
 ghost use lib.ListN.{length};
-ghost use Rattle.lvar.specs.Names.{state, outOf, putNames, lvStep, lvWalk};
+ghost use Rattle.lvar.specs.Names.{state, outOf, putNames, lvStep, lvWalk, visitsOver, inWord};
 ghost use Rattle.lvar.specs.Section.{filled, endOf, lvarOf};
 
 // The next place, the next record and the names used, or a refusal's number.
@@ -18,9 +18,14 @@ enum Walk {
     Refused(u8),
 }
 
-// The section's size and the rows used of both tables, or a refusal's number.
+// The section's size, the rows used of both tables and the visits that the walk made, or a refusal's number.
 pub enum Lvar {
-    Next { size: u32, strings: u32, names: u32 },
+    Next {
+        size: u32,
+        strings: u32,
+        names: u32,
+        visits: u32,
+    },
     Refused(u8),
 }
 
@@ -131,9 +136,24 @@ fn read_lv_records(
     }
 }
 
+// The visits of a walk that visits the first n records: that of record 0 and one for each child, past the last record or not. For no file is the
+// sum above a word.
+fn visits(records: &[u32], n: usize) -> u32
+    requires { ⌜ n * 19 ≤ length (now records) ⌝ }
+    ensures { λ r. ⌜ r ≡ inWord (visitsOver (now (records .entry)) n) ⌝ }
+{
+    let mut sum: u32 = 1;
+    let mut i = 0;
+    while i < n {
+        sum = std::num::wrapping_add_u32(sum, records[i * 19 + 3]);
+        i += 1;
+    }
+    sum
+}
+
 // The size is not 0, and the part has as many bytes.
-fn end_size(f: &[u8], size: u32, strings: u32, names: u32) -> Lvar
-    ensures { λ r. ⌜ r ≡ endOf (now (f .entry)) size strings names ⌝ }
+fn end_size(f: &[u8], size: u32, strings: u32, names: u32, visits: u32) -> Lvar
+    ensures { λ r. ⌜ r ≡ endOf (now (f .entry)) size strings names visits ⌝ }
 {
     if size == 0 {
         return Lvar::Refused(8);
@@ -146,6 +166,7 @@ fn end_size(f: &[u8], size: u32, strings: u32, names: u32) -> Lvar
         size,
         strings,
         names,
+        visits,
     }
 }
 
@@ -174,9 +195,9 @@ pub fn section_lvar(
             Walk::Refused(k) => Lvar::Refused(k),
             Walk::Next {
                 at: _,
-                rec: _,
+                rec,
                 used: named,
-            } => end_size(f, size, used, named),
+            } => end_size(f, size, used, named, visits(records, rec)),
         },
     }
 }

@@ -1,6 +1,6 @@
 -- The sections over nine tables agree with the reading that knows no table, and so does the load.
 -- Assumes nothing.
-use Prim.Native.Nat.{ℕ, zero, suc, _+_, _<_}
+use Prim.Native.Nat.{ℕ, zero, suc, _+_, _≤_, _<_}
 use native.Mathlib.Omega.{arith}
 use mathlib.Core.Path.{_≡_, refl, _∙_}
 use mathlib.Core.Bool.{Bool, true, false, cond}
@@ -17,18 +17,19 @@ use Rattle.format.specs.Irep.{Rec, irepSection}
 use Rattle.format.specs.Lvar.{Lvar, lvarSection}
 use Rattle.format.specs.Debug.{File, Debug, debugSection}
 use Rattle.format.specs.File.{Content, content, nothing, isMark, once, afterIrep, endSection, sectionAt, sections, fileRefusal, fileReading}
-use Rattle.format.specs.Load.{Nine, Words, tablesOf, wordsOf, recordsOf, namesOf, filesOf, joined, start, used, fits, ending, loading, load}
+use Rattle.format.specs.Load.{Nine, Words, tablesOf, wordsOf, recordsOf, namesOf, filesOf, joined, start, used, visitsOf, counts, fits, ending, loading, load}
 use Rattle.rows.specs.Table.{rowCount}
 use Rattle.rows.proofs.Join.{Ran, length-table}
 use Rattle.irep.specs.Record.{irepOf}
 use Rattle.irep.proofs.Join as irep
 use Rattle.irep.proofs.Join.{held, lentOf, IrepRan, irep-ran}
+use Rattle.lvar.specs.Names.{inWord}
 use Rattle.lvar.proofs.Join as lvar
 use Rattle.lvar.proofs.Join.{lvar-ran}
 use Rattle.debug.proofs.Join as debug
 use Rattle.debug.proofs.Join.{debug-ran}
 use Rattle.debug.specs.Section.{debugOf}
-use Rattle.bounds.proofs.Bounds.{reading-bounds}
+use Rattle.bounds.proofs.Bounds.{reading-bounds, visits-few}
 use Rattle.format.proofs.Places.{rows-length, fileRows-length}
 use Rattle.bounds.proofs.Grows.{Ordered, Less, same, Grown, section-grows, sections-grow}
 use Rattle.rite.proofs.Fits.{Room, room-less, fits-true, fits-false}
@@ -61,6 +62,7 @@ usedIn c =
       filenames = length (t .fileNames);
       files = length (joined (filesOf c));
       lines = length (t .lines);
+      visits = inWord (visitsOf c);
     }
 
 abbrev progressOf : Content → Progress
@@ -299,7 +301,7 @@ module _ (m : Nine) (f : List ℕ) (bytes : (i : ℕ) → getD f i 0 < 256) wher
   p = fileReading f
 
   is-loaded : (at : ℕ) → p .end ≡ ok at → fits 1024 m (used (tablesOf (p .it))) ≡ true
-      → load f m ≡ record { answer = ok (used (tablesOf (p .it))); tables = wordsOf m (tablesOf (p .it)) }
+      → load f m ≡ record { answer = ok (counts (p .it)); tables = wordsOf m (tablesOf (p .it)) }
   unfolding load loading ending
   is-loaded at e t = rw (t, e)
 
@@ -317,6 +319,9 @@ module _ (m : Nine) (f : List ℕ) (bytes : (i : ℕ) → getD f i 0 < 256) wher
     where
       by-run : FileRan 1024 m f p o → load f m ≡ onLoaded (o .ans) (λ u. loadedOf (loaded-is.Rows u) (o .tables)) (λ e. loadedOf (loaded-is.Refused e) (wordsOf m (tablesOf nothing)))
       by-run (Ran.went at e x d) =
-          rw d (is-loaded at e (fits-true 1024 m (p .it) x) ∙ rw (rows-length (recordsOf (p .it)) start (namesOf (p .it)) (filesOf (p .it)), fileRows-length 0 (joined (filesOf (p .it)))))
+          let rows = rows-length (recordsOf (p .it)) start (namesOf (p .it)) (filesOf (p .it)) in
+          let few : length (recordsOf (p .it)) ≤ 1024 = omega (arith, rows, x .limited) in
+          let word : inWord (visitsOf (p .it)) ≡ visitsOf (p .it) = omega (arith, visits-few f bytes few) in
+          rw d (is-loaded at e (fits-true 1024 m (p .it) x) ∙ rw (rows, fileRows-length 0 (joined (filesOf (p .it))), word))
       by-run (Ran.stop k e x d) = rw d (is-refused k e (fits-true 1024 m (p .it) x))
       by-run (Ran.full x d) = rw d (is-full (fits-false 1024 m (p .it) (omega arith) (reading-bounds f bytes) x))

@@ -29,9 +29,13 @@ abbrev pub nineOf : Used → format.Nine
 nineOf u =
     record { records = u .records; handlers = u .handlers; pool = u .pool; symbols = u .symbols; strings = u .strings; names = u .names; fileNames = u .filenames; files = u .files; lines = u .lines }
 
--- the rows used, or the refusal's number
-abbrev pub answerOf : Loaded → Answer format.Nine
-answerOf (loaded.Rows u) = ok (nineOf u)
+-- with the visits of the LVAR walk
+abbrev pub countsOf : Used → format.Counts
+countsOf u = record { rows = nineOf u; visits = u .visits }
+
+-- the counts, or the refusal's number
+abbrev pub answerOf : Loaded → Answer format.Counts
+answerOf (loaded.Rows u) = ok (countsOf u)
 answerOf (loaded.Refused e) = refused e
 
 abbrev pub loadedOf : Loaded → format.Words → format.Loaded

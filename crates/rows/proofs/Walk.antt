@@ -48,18 +48,18 @@ module _ {S T : Type 0} (step : S → Run S T) (kids : S → ℕ) (spent : S →
       by-spent true h ih = sym (spent-walk (count - rec s) b s h)
       by-spent false h ih = rw (← add-assoc (kids s) a b) (bind-same (step s) _ _ ih ∙ sym (bind-bind (step s) _ _))
 
-  -- where a walk goes on, the next record is not before the one it started at
-  pub walk-rec : (l p : ℕ) (s s′ : S) → walk step kids spent l p s ≡ go s′ → rec s ≤ rec s′
+  -- where a walk over `l` records goes on, the next record is not before the one it started at, nor more than l behind it
+  pub walk-rec : (l p : ℕ) (s s′ : S) → walk step kids spent l p s ≡ go s′ → (rec s ≤ rec s′) × (rec s′ ≤ rec s + l)
   unfolding walk
-  walk-rec zero p s s′ e = let r : rec s ≡ rec s′ = ap rec (same-go s s′ e) in omega arith
-  walk-rec (suc l) zero s s′ e = let r : rec s ≡ rec s′ = ap rec (same-go s s′ e) in omega arith
+  walk-rec zero p s s′ e = let r : rec s ≡ rec s′ = ap rec (same-go s s′ e) in (omega arith, omega arith)
+  walk-rec (suc l) zero s s′ e = let r : rec s ≡ rec s′ = ap rec (same-go s s′ e) in (omega arith, omega arith)
   walk-rec (suc l) (suc p) s s′ e = by-spent (spent s) (step s) (next s) (λ x. walk-rec l (kids s + p) x s′) e
     where
       by-spent : (q : Bool) (o : Run S T) → ((x : S) → o ≡ go x → rec x ≡ rec s + 1)
-          → ((x : S) → walk step kids spent l (kids s + p) x ≡ go s′ → rec x ≤ rec s′)
-          → cond q (go s) (bind o (walk step kids spent l (kids s + p))) ≡ go s′ → rec s ≤ rec s′
-      by-spent true o n ih h = let r : rec s ≡ rec s′ = ap rec (same-go s s′ h) in omega arith
-      by-spent false (go x) n ih h = let r = n x refl in let m = ih x h in omega arith
+          → ((x : S) → walk step kids spent l (kids s + p) x ≡ go s′ → (rec x ≤ rec s′) × (rec s′ ≤ rec x + l))
+          → cond q (go s) (bind o (walk step kids spent l (kids s + p))) ≡ go s′ → (rec s ≤ rec s′) × (rec s′ ≤ rec s + suc l)
+      by-spent true o n ih h = let r : rec s ≡ rec s′ = ap rec (same-go s s′ h) in (omega arith, omega arith)
+      by-spent false (go x) n ih h = let r = n x refl in let m = ih x h in (omega arith, omega arith)
       by-spent false (stop c t) n ih h = absurd (stop-go c t s′ h)
 
   -- a visit of a record that is there: o is what its step answers
@@ -99,7 +99,7 @@ module _ {S T : Type 0} (step : S → Run S T) (kids : S → ℕ) (spent : S →
       let j : suc k ≡ 1 + k = omega arith in
       rw (ih s h)
       (bind-same (walk step kids spent (count - rec s) 1 s) _ (λ s′. walk step kids spent (count - rec s′) k s′)
-      (λ x ex. let r = walk-rec (count - rec s) 1 s x ex in repeat-walk deep ih k x (omega arith))
+      (λ x ex. let r = walk-rec (count - rec s) 1 s x ex .0 in repeat-walk deep ih k x (omega arith))
       ∙ rw j (sym (walk-add (count - rec s) 1 k s refl)))
 
   -- the recursion and the count of pending visits are the same walk

@@ -29,7 +29,7 @@ begun =
       irep = false;
       lvar = false;
       dbg = false;
-      used = record { records = 0; handlers = 0; pool = 0; symbols = 0; strings = 0; names = 0; filenames = 0; files = 0; lines = 0 };
+      used = record { records = 0; handlers = 0; pool = 0; symbols = 0; strings = 0; names = 0; filenames = 0; files = 0; lines = 0; visits = 0 };
     }
 
 abbrev pub withIrep : Progress → IrepUsed → Progress
@@ -48,11 +48,12 @@ withIrep p v =
         filenames = p .used .filenames;
         files = p .used .files;
         lines = p .used .lines;
+        visits = p .used .visits;
       };
     }
 
-abbrev pub withLvar : Progress → ℕ → ℕ → Progress
-withLvar p strings names =
+abbrev pub withLvar : Progress → ℕ → ℕ → ℕ → Progress
+withLvar p strings names visits =
     record {
       irep = p .irep;
       lvar = true;
@@ -67,6 +68,7 @@ withLvar p strings names =
         filenames = p .used .filenames;
         files = p .used .files;
         lines = p .used .lines;
+        visits = visits;
       };
     }
 
@@ -86,6 +88,7 @@ withDbg p filenames files lines =
         filenames = filenames;
         files = files;
         lines = lines;
+        visits = p .used .visits;
       };
     }
 
@@ -120,7 +123,7 @@ abbrev pub lvarOut : Section → List ℕ → List ℕ → List ℕ → LvarOut
 lvarOut a rs ss ns = record { ans = a; records = rs; strings = ss; names = ns }
 
 abbrev pub lvarNext : Progress → Lvar → Section
-lvarNext p (lvar-is.Next size s n) = section.Next size (withLvar p s n)
+lvarNext p (lvar-is.Next size s n v) = section.Next size (withLvar p s n v)
 lvarNext p (lvar-is.Refused e) = section.Refused e
 
 unfoldable pub lvarOutOf : List ℕ → ℕ → List ℕ → List ℕ → List ℕ → Progress → LvarOut

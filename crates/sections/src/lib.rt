@@ -7,7 +7,7 @@ ghost use Prim.Native.Nat.{_≤_};
 ghost use lib.ListN.{length};
 ghost use Rattle.sections.specs.Sections.{begun, withIrep, withLvar, withDbg, irepOut, irepOutOf, lvarOut, lvarOutOf, dbgOut, dbgOutOf, endOutOf};
 
-// How many rows of each table are used.
+// How many rows of each table are used, and how many visits the LVAR walk made.
 pub struct Used {
     pub records: u32,
     pub handlers: u32,
@@ -18,6 +18,7 @@ pub struct Used {
     pub filenames: u32,
     pub files: u32,
     pub lines: u32,
+    pub visits: u32,
 }
 
 // Which sections have come, and the rows used so far.
@@ -52,6 +53,7 @@ pub fn nothing_read() -> Progress
             filenames: 0,
             files: 0,
             lines: 0,
+            visits: 0,
         },
     }
 }
@@ -75,13 +77,14 @@ fn with_irep(p: Progress, v: irep::Used) -> Progress
             filenames: u.filenames,
             files: u.files,
             lines: u.lines,
+            visits: u.visits,
         },
     }
 }
 
-// LVAR has come, with the rows that it uses.
-fn with_lvar(p: Progress, strings: u32, names: u32) -> Progress
-    ensures { λ r. ⌜ r ≡ withLvar p strings names ⌝ }
+// LVAR has come, with the rows that it uses and the visits that its walk made.
+fn with_lvar(p: Progress, strings: u32, names: u32, visits: u32) -> Progress
+    ensures { λ r. ⌜ r ≡ withLvar p strings names visits ⌝ }
 {
     let u = p.used;
     Progress {
@@ -98,6 +101,7 @@ fn with_lvar(p: Progress, strings: u32, names: u32) -> Progress
             filenames: u.filenames,
             files: u.files,
             lines: u.lines,
+            visits,
         },
     }
 }
@@ -121,6 +125,7 @@ fn with_dbg(p: Progress, filenames: u32, files: u32, lines: u32) -> Progress
             filenames,
             files,
             lines,
+            visits: u.visits,
         },
     }
 }
@@ -180,9 +185,10 @@ pub fn lvar_at(
             size,
             strings: s,
             names: n,
+            visits: v,
         } => Section::Next {
             size,
-            progress: with_lvar(p, s, n),
+            progress: with_lvar(p, s, n, v),
         },
         lvar::Lvar::Refused(e) => Section::Refused(e),
     }

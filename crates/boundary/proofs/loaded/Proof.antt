@@ -6,7 +6,7 @@ use Rattle.boundary.proofs.loaded.Statement.{statement}
 use Rattle.boundary.proofs.loaded.Tie as tie
 
 returns : tie.Need-returns
-returns c = rw (c .before .before .l .given .1) (c .rows .ensures)
+returns c = rw (c .before .before .l .given .1) (c .counts .ensures)
 
 returns-2 : tie.Need-returns-2
 returns-2 c = rw (c .before .l2 .given .1)

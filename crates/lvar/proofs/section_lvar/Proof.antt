@@ -8,7 +8,7 @@ use Rattle.rows.specs.Table.{out}
 use Rattle.lvar.specs.Names.{outOf}
 use Rattle.lvar.specs.Section.{walked}
 use Rattle.headers.proofs.Fields.{field-there}
-use Rattle.lvar.proofs.Laws.{section-cut, section-strings}
+use Rattle.lvar.proofs.Laws.{lv-inside, section-cut, section-strings}
 use borrow.Author.Needs.{needs}
 use Rattle.lvar.proofs.section_lvar.Statement.{statement}
 use Rattle.lvar.proofs.section_lvar.Tie as tie
@@ -54,22 +54,33 @@ returns-4 c =
     (ap field32Of (sym (q .n .given .1)) ∙ q .before .before .u32-at .ensures)
     (ap (λ r. out r t) (sym (p .at .given .1)) ∙ s .read-rows .ensures)
 
-returns-5 : tie.Need-returns-5
-returns-5 c =
+visits-requires : tie.Need-visits-requires
+visits-requires c κs =
     let c2 = c .before .before in
     let c8 = c2 .before .before .before .before .before .before in
     let c12 = c8 .before .before .before .before in
-    let c30 = c12 .before .before .before .before .before .before .before .before .before .before .before .before .before .before .before .before .before .before in
+    let a = c12 .before .before .before .before .before .before .before .before .before .before .before .before .before .before .before .before .before .before .args in
     let call = c8 .read-lv-records in
-    let p = c12 in
+    let n = c12 .before .before .before .before .before .before .before .n .given .0 .0 in
+    let inside =
+    lv-inside (a .f .now) n (a .count) 1 _ _ (omega arith)
+    (ap (λ r. outOf r (call .last .1 .0) (call .last .1 .1 .0)) (sym (c2 .rec .given .1)) ∙ call .ensures) in
+    omega (arith, inside, call .kept .1 .0, c12 .before .before .before .before .before .before .before .before .before .before .before .before .before .before .before .before .before .before .pre .1)
+
+returns-5 : tie.Need-returns-5
+returns-5 c =
+    let c4 = c .before .before .before .before in
+    let c10 = c4 .before .before .before .before .before .before in
+    let p = c10 .before .before .before .before in
+    let a = p .before .before .before .before .before .before .before .before .before .before .before .before .before .before .before .before .before .before .args in
+    let call = c10 .read-lv-records in
     let s = p .before .before .before .before in
     let q = s .before .before .before in
     let z = q .before .before .before .before in
-    let a = c30 .args in
     let t = s .read-rows .last .1 .1 .1 .1 .1 .0 in
     let size = field-there (a .f .now) 0 8 (u32At (a .f .now) 4) (z .size .given .0 .0) (ap field32Of (sym (z .size .given .1)) ∙ z .before .before .section-size .ensures) .1 in
-    rw (c .end-size .ensures, size)
-    (ap (walked (a .f .now) (p .at .given .0 .1 .0) t) (ap (λ r. outOf r (call .last .1 .0) (call .last .1 .1 .0)) (sym (c2 .named .given .1)) ∙ call .ensures)
+    rw (c .end-size .ensures, c .before .visits .ensures, size)
+    (ap (walked (a .f .now) (p .at .given .0 .1 .0) t) (ap (λ r. outOf r (call .last .1 .0) (call .last .1 .1 .0)) (sym (c4 .rec .given .1)) ∙ call .ensures)
     ∙ section-strings (a .f .now) (a .base) (a .count) (a .records .now) (a .strings .now) (a .names .now) (q .n .given .0 .0) _ t
     (ap field32Of (sym (q .n .given .1)) ∙ q .before .before .u32-at .ensures)
     (ap (λ r. out r t) (sym (p .at .given .1)) ∙ s .read-rows .ensures))
@@ -93,6 +104,7 @@ section-lvar-spec =
     (λ c κs. search needs)
     (λ c. search needs)
     (λ c. search needs)
+    visits-requires
     (λ c κs. search needs)
     (λ c. search needs)
     returns-3
