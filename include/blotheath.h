@@ -58,7 +58,14 @@
 extern "C" {
 #endif
 
-/* The answer of a load or an examination: the refusal's number, and then every count is 0; or 0 and the rows used of each table. */
+/* The answer of a load or an examination: the refusal's number, and then every count is 0; or 0, the rows used of each table, and the visits that
+   the walk over the local names (LVAR) made. The walk visits record 0 and then, of each record that it visits, as many children as its row says
+   (rlen). A visit past the last record reads nothing, and is counted too. So visits is
+       0                           without an LVAR section
+       the number of records       where they are one whole tree, as in every file that passes
+       less than that, and not 0   where the records from number visits on are never reached, and have no names
+       more than that              where the visits that are more went past the last record
+   It is 67,107,841 at most, for 1,024 records of 65,535 children each. Visits past the last record are not made one by one: they take no time. */
 typedef struct {
     uint32_t refusal;
     uint32_t records;
@@ -70,6 +77,7 @@ typedef struct {
     uint32_t filenames;
     uint32_t files;
     uint32_t lines;
+    uint32_t visits;
 } BlotheathLoaded;
 
 /* Loads a file into nine lent tables. Lengths are in words. What the tables hold before the call does not matter; afterwards each holds its rows

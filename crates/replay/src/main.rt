@@ -17,7 +17,7 @@ ghost use Prim.Native.Nat.{_≤_};
 
 // What a load, an examination or a follow answers, and the sum of its tables afterwards.
 struct Outcome {
-    numbers: [u32; 10],
+    numbers: [u32; 11],
     sum: u64,
 }
 
@@ -68,7 +68,7 @@ fn sum_of_all(
     sum(lines, s8)
 }
 
-fn of_loaded(r: BlotheathLoaded) -> [u32; 10] {
+fn of_loaded(r: BlotheathLoaded) -> [u32; 11] {
     [
         r.refusal,
         r.records,
@@ -80,10 +80,11 @@ fn of_loaded(r: BlotheathLoaded) -> [u32; 10] {
         r.filenames,
         r.files,
         r.lines,
+        r.visits,
     ]
 }
 
-fn of_followed(r: BlotheathFollowed) -> [u32; 10] {
+fn of_followed(r: BlotheathFollowed) -> [u32; 11] {
     [
         r.refusal,
         r.finished,
@@ -95,13 +96,15 @@ fn of_followed(r: BlotheathFollowed) -> [u32; 10] {
         0,
         0,
         0,
+        0,
     ]
 }
 
 // Whether an answer and the sum of its tables are the stored ones.
 fn outcome_agrees(o: Outcome, all: &[u8], at: usize) -> bool {
     let n = o.numbers;
-    (word(all, ahead(at, 40)) as u64) == o.sum
+    (word(all, ahead(at, 44)) as u64) == o.sum
+        && word(all, ahead(at, 40)) == n[10]
         && five_agree(n[0], n[1], n[2], n[3], n[4], all, at)
         && five_agree(n[5], n[6], n[7], n[8], n[9], all, ahead(at, 20))
 }
@@ -121,7 +124,7 @@ fn call(
     lines: &mut [u32],
     frames: &mut [u32],
     choices: &[u8],
-) -> [u32; 10] {
+) -> [u32; 11] {
     match kind {
         2 => of_loaded(boundary::loaded(rite::load(
             file,
@@ -265,17 +268,17 @@ fn call_at(kind: u32, all: &[u8], s: State, at: usize, frame_words: usize, choic
 
 // A load or an examination.
 fn load_item(kind: u32, all: &[u8], s: State) -> State {
-    answered(s, call_at(kind, all, s, ahead(s.at, 4), 0, &all[0..0]), 84)
+    answered(s, call_at(kind, all, s, ahead(s.at, 4), 0, &all[0..0]), 88)
 }
 
 fn follow_item(all: &[u8], s: State) -> State {
-    let frame_words = word(all, ahead(s.at, 84)) as usize;
-    let bytes = word(all, ahead(s.at, 88)) as usize;
-    let choices = ahead(s.at, 92);
+    let frame_words = word(all, ahead(s.at, 88)) as usize;
+    let bytes = word(all, ahead(s.at, 92)) as usize;
+    let choices = ahead(s.at, 96);
     let end = least(ahead(choices, bytes), all.len());
     let start = least(choices, end);
     let agrees = call_at(8, all, s, ahead(s.at, 4), frame_words, &all[start..end]);
-    answered(s, agrees, ahead(bytes, 92))
+    answered(s, agrees, ahead(bytes, 96))
 }
 
 fn print_part(all: &[u8], at: usize, bytes: usize) {
@@ -319,7 +322,7 @@ fn replay(all: &[u8]) {
 }
 
 fn main() {
-    let mut all = [0u8; 524288];
+    let mut all = [0u8; 589824];
     let n = io::read_full(STDIN_FILENO, &mut all);
     replay(&all[..n]);
 }

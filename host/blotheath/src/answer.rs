@@ -1,11 +1,12 @@
 //! The structs that cross the C boundary, as include/blotheath.h declares them.
 
-/// The rows used of the nine tables, or a refusal.
+/// The rows used of the nine tables and the visits of the LVAR walk, or a refusal.
 #[repr(C)]
 #[derive(Debug, Clone, Copy, PartialEq, Default)]
 pub struct BlotheathLoaded {
     pub refusal: u32,
     pub rows: [u32; 9],
+    pub visits: u32,
 }
 
 /// A record's row, its words in their order.

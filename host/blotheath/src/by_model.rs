@@ -16,6 +16,7 @@ fn give(loaded: model::Loaded, words: &mut Words) -> BlotheathLoaded {
     BlotheathLoaded {
         refusal: loaded.refusal,
         rows: loaded.rows,
+        visits: loaded.visits,
     }
 }
 

@@ -23,6 +23,7 @@ mod run;
 mod step;
 pub mod tables;
 mod tree;
+mod walk;
 
 pub use follow::{Choice, Frame, Standing, bytes_of, follow};
 pub use hint::looks_like;
@@ -39,6 +40,7 @@ pub use registers::Registers;
 pub use run::{Before, Run};
 pub use step::{BadStep, Kind, Step, Steps};
 pub use tree::{Node, Tree};
+pub use walk::NameWalk;
 
 /// The longest file, in bytes.
 pub const FILE_LIMIT: usize = 65_536;

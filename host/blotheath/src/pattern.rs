@@ -14,7 +14,10 @@ pub struct Pattern<'a> {
     counts: Counts,
 }
 
-/// How many rows each table uses.
+/// How many rows each table uses, and how many visits the walk over the local names made.
+///
+/// Without an LVAR section there is no visit. Else the walk visits record 0 and, for each record that it visits, so many
+/// children as its row says, past the last record too: where the records are one whole tree, as many visits as records.
 #[derive(Debug, Clone, Copy, PartialEq, Eq, Default)]
 pub struct Counts {
     pub records: u32,
@@ -26,10 +29,11 @@ pub struct Counts {
     pub file_names: u32,
     pub files: u32,
     pub lines: u32,
+    pub visits: u32,
 }
 
 impl Counts {
-    fn of(rows: [u32; 9]) -> Counts {
+    fn of(loaded: BlotheathLoaded) -> Counts {
         let [
             records,
             handlers,
@@ -40,7 +44,7 @@ impl Counts {
             file_names,
             files,
             lines,
-        ] = rows;
+        ] = loaded.rows;
         Counts {
             records,
             handlers,
@@ -51,6 +55,7 @@ impl Counts {
             file_names,
             files,
             lines,
+            visits: loaded.visits,
         }
     }
 }
@@ -169,7 +174,7 @@ fn answered(
         (loaded.refusal, loaded)
     });
     Refusal::of(loaded.refusal)?;
-    Ok(Pattern::over(file, words, loaded.rows))
+    Ok(Pattern::over(file, words, loaded))
 }
 
 /// The line of a position in a map of rows of two words, position and line.
@@ -180,11 +185,11 @@ pub fn line_at(map: &[u32], position: u32) -> Option<u32> {
 
 impl<'a> Pattern<'a> {
     /// A pattern over the tables that a load has filled.
-    fn over(file: &'a [u8], words: Words, rows: [u32; 9]) -> Pattern<'a> {
+    fn over(file: &'a [u8], words: Words, loaded: BlotheathLoaded) -> Pattern<'a> {
         Pattern {
             file,
             words,
-            counts: Counts::of(rows),
+            counts: Counts::of(loaded),
         }
     }
 

@@ -24,8 +24,23 @@ static const uint8_t file[64] = {
     'E', 'N', 'D', 0, 0, 0, 0, 8,
 };
 
-/* The place of its instructions. */
+/* The place of its instructions, and those of its number of children and of its END section. */
 #define CODE 48
+#define CHILDREN 40
+#define END 56
+
+/* The visits of a load of the file with so many children and an LVAR section without strings. */
+static uint32_t visits_of(uint16_t children) {
+    static const uint8_t lvar[12] = {'L', 'V', 'A', 'R', 0, 0, 0, 12, 0, 0, 0, 0};
+    uint8_t walked[sizeof file + sizeof lvar];
+    uint32_t records[19];
+    memcpy(walked, file, END);
+    memcpy(walked + END, lvar, sizeof lvar);
+    memcpy(walked + END + sizeof lvar, file + END, sizeof file - END);
+    walked[CHILDREN] = children >> 8;
+    walked[CHILDREN + 1] = children & 255;
+    return blotheath_load(LENT(walked), LENT(records), NONE, NONE, NONE, NONE, NONE, NONE, NONE, NONE).visits;
+}
 
 /* What an examination of the file answers with ADD of a register in the place of LOADNIL. */
 static uint32_t examined_adding(uint8_t a) {
@@ -124,6 +139,8 @@ int main(void) {
     BlotheathLoaded loaded =
         blotheath_load_records(LENT(file), LENT(records), NONE, NONE, NONE, NONE, NONE, NONE, NONE, NONE, LENT(row));
     hold(loaded.refusal == 0 && loaded.records == 1, "only records need rows");
+    hold(loaded.visits == 0, "without LVAR there is no visit");
+    hold(visits_of(0) == 1 && visits_of(3) == 4 && visits_of(65535) == 65536, "a visit of record 0, and one for each child");
     hold(row[0].size == 24 && row[0].ilen == 4 && row[0].nlines == 0, "the row is the record's");
     BlotheathFollowed at = blotheath_follow(LENT(file), LENT(records), NONE, NONE, NONE, NONE, NONE, NONE, NONE, NONE,
                                             LENT(frames), NONE);

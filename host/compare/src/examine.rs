@@ -9,7 +9,7 @@ use crate::newer::NEWER;
 use crate::prefixes::PREFIXES;
 use crate::registers;
 use crate::rng::Rng;
-use crate::subject::{Subject, first_difference, subjects};
+use crate::subject::{Answer, Subject, first_difference, subjects};
 use model::{OPCODES, Record, Refusal, Sizes, Step};
 use std::collections::{BTreeMap, BTreeSet};
 
@@ -188,10 +188,11 @@ fn one(subjects: &[Box<dyn Subject>], file: &[u8], rng: &mut Rng) -> Result<[Ref
             let mut tables = garbage(&sizes, rng);
             let answer = subject.examine(file, &mut tables);
             let name = subject.name();
-            if (answer.refusal, answer.rows) != (right.refusal, right.rows) {
+            let by_model = Answer::of(&right);
+            if answer != by_model {
                 return Err(format!(
-                    "over {:?} words {name} answers {answer:?}, the model {} and {:?}",
-                    sizes.0, right.refusal, right.rows
+                    "over {:?} words {name} answers {answer:?}, the model {by_model:?}",
+                    sizes.0
                 ));
             }
             if let Some(difference) = first_difference(&tables, &right.tables) {

@@ -7,7 +7,7 @@ use crate::generate::{FAMILIES, Generator, state_size};
 use crate::held::Held;
 use crate::oracle::{self, OWN_RULE, Outcome};
 use crate::rng::Rng;
-use crate::subject::{Subject, first_difference, subjects};
+use crate::subject::{Answer, Subject, first_difference, subjects};
 use model::{Entry, HEADER, Loaded, NAMES, ROW_WORDS, Record, Refusal, Rows, Sizes, Tables};
 use original::Error;
 use std::collections::BTreeMap;
@@ -113,11 +113,12 @@ impl Counts {
         let dbg = expected::section(file, b"DBG\0");
         has("LVAR before DBG", lvar.is_some() && lvar < dbg);
         has("DBG before LVAR", dbg.is_some() && dbg < lvar);
-        let unnamed = |r: &Record| r.nlocals != 1 && r.names.number == 0;
+        let number = records.len() as u64;
         has(
-            "unvisited by LVAR",
-            lvar.is_some() && records.iter().any(unnamed),
+            "not reached by LVAR",
+            lvar.is_some() && rows.visits < number,
         );
+        has("LVAR past the last", rows.visits > number);
         has("passing", model::passes(file, rows).is_ok());
     }
 
@@ -396,6 +397,10 @@ pub fn one(
     let reading = model::read(file, [usize::MAX; 9]);
     let needed = reading.rows.used();
     let number = reading.end.err().unwrap_or(0);
+    let visits = match number {
+        0 => reading.rows.visits,
+        _ => 0,
+    };
     let held = Held::of(file, &reading)?;
     let bytes = held.bytes(file);
     let outcome = bytes.map(|bytes| by_original(number, bytes));
@@ -411,6 +416,13 @@ pub fn one(
         let name = subject.name();
         if answer.refusal != number {
             return Err(format!("{name} answers {}, not {number}", answer.refusal));
+        }
+        // The original does not count its visits.
+        if u64::from(answer.visits) != visits {
+            return Err(format!(
+                "{name} answers {} visits, not {visits}",
+                answer.visits
+            ));
         }
         if let (Some(bytes), Some(Outcome::Loaded(rite))) = (bytes, &outcome) {
             expected::compare(&**subject, bytes, rite, &answer, &tables)
@@ -505,10 +517,11 @@ fn as_model(
         let mut tables = garbage(sizes, rng);
         let answer = subject.load(file, &mut tables);
         let name = subject.name();
-        if (answer.refusal, answer.rows) != (right.refusal, right.rows) {
+        let by_model = Answer::of(right);
+        if answer != by_model {
             return Err(format!(
-                "over {:?} words {name} answers {answer:?}, the model {} and {:?}",
-                sizes.0, right.refusal, right.rows
+                "over {:?} words {name} answers {answer:?}, the model {by_model:?}",
+                sizes.0
             ));
         }
         if let Some(difference) = first_difference(&tables, &right.tables) {

@@ -24,6 +24,7 @@ mod rng;
 mod sample;
 mod store;
 mod subject;
+mod visits;
 
 use std::process::ExitCode;
 

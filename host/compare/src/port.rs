@@ -88,8 +88,16 @@ impl Subject for Port {
 }
 
 fn answer(loaded: BlotheathLoaded) -> Answer {
-    let BlotheathLoaded { refusal, rows } = loaded;
-    Answer { refusal, rows }
+    let BlotheathLoaded {
+        refusal,
+        rows,
+        visits,
+    } = loaded;
+    Answer {
+        refusal,
+        rows,
+        visits,
+    }
 }
 
 fn found<const N: usize>(refusal: u32, fields: [u32; N]) -> Found {

@@ -8,16 +8,16 @@
 //! ```text
 //! 0                         the end
 //! 1 LENGTH BYTES            bytes: a file to load or code to fetch from
-//! 2 W0 .. W8 N R0 .. R8 S   a load of these bytes over nine tables of so many words:
-//!                           refusal's number or 0, rows used, the sum of all lent words afterwards
+//! 2 W0 .. W8 N R0 .. R8 V S a load of these bytes over nine tables of so many words:
+//!                           refusal's number or 0, rows used, visits of the LVAR walk, the sum of all lent words afterwards
 //! 3 N KIND A B C            a fetch from these bytes: refusal's number or 0, operand kind, operands
 //! 4 WORDS P0 L0 P1 L1 ..    words: how many, then a map's positions and lines, or the lengths of nine tables and their words
 //! 5 POS FOUND LINE          a line lookup in this map: position, 1 or 0 for none, line or 0
 //! 6 LENGTH NAME             the end of a group of answers, and its name
-//! 7 W0 .. W8 N R0 .. R8 S   an examination of these bytes, as a load
-//! 8 W0 .. W8 N R0 .. R8 S F LENGTH CHOICES
+//! 7 W0 .. W8 N R0 .. R8 V S an examination of these bytes, as a load
+//! 8 W0 .. W8 N R0 .. R9 S F LENGTH CHOICES
 //!                           a follow of these bytes along choices, over a frame table of F words: refusal's number or 0, then finished,
-//!                           record, offset, found, line, frames and three zeros, the sum of all lent words, the frame table's last
+//!                           record, offset, found, line, frames and four zeros, the sum of all lent words, the frame table's last
 //! 9 LOOKUP REC INDEX N A B C D E
 //!                           a lookup in these bytes and nine tables: refusal's number or 0, then the fields of its answer, zeros behind them
 //! 10 REC INDEX N KIND PLACE LENGTH INT FLOAT
@@ -52,7 +52,8 @@ use crate::oracle::{self, NO_ROW, Outcome, TOO_LONG};
 use crate::rng::Rng;
 use crate::sample::{Examined, FINISHED, Run, stands_at};
 use crate::subject::{Answer, Fetch, Follow, Found, LOOKUPS, Lookup, Model, Subject, subjects};
-use model::{FILE_LIMIT, HEADER, OPCODES, Refusal, Sizes, Tables};
+use crate::visits;
+use model::{FILE_LIMIT, HEADER, OPCODES, ROW_WORDS, Refusal, Sizes, Tables};
 use original::rite::rite::line_at;
 use std::collections::BTreeMap;
 use std::fs;
@@ -69,6 +70,8 @@ const POOL: usize = 2;
 const SYMBOLS: usize = 3;
 const STRINGS: usize = 4;
 const FILE_NAMES: usize = 6;
+/// Tables of one row each.
+const ONE_ROW: Sizes = Sizes(ROW_WORDS);
 /// The most words of a frame table.
 const MOST_FRAMES: usize = 2_048;
 /// The most words of a stored item of words.
@@ -84,6 +87,7 @@ pub fn write(args: &Args) -> Result<(), Stop> {
     let mut calls = Store::default();
     samples(&mut calls).map_err(Stop::Difference)?;
     chosen_samples(&mut calls).map_err(Stop::Difference)?;
+    visited_samples(&mut calls).map_err(Stop::Difference)?;
     loads(&mut calls, seed, count as usize, &mut counts).map_err(Stop::Difference)?;
     examinable_files(&mut calls, seed)?;
     let mut lookups = Store::default();
@@ -126,12 +130,10 @@ impl Store {
     }
 
     /// A load, an examination or the head of a follow.
-    fn call(&mut self, kind: u32, sizes: &Sizes, refusal: u32, numbers: &[u32; 9], sum: u32) {
+    /// A load, an examination or the first numbers of a follow; an answer has eleven.
+    fn call(&mut self, kind: u32, sizes: &Sizes, answer: [u32; 11], sum: u32) {
         let words = sizes.0.map(|words| words as u32);
-        self.item(
-            kind,
-            [&words[..], &[refusal], &numbers[..], &[sum]].concat(),
-        );
+        self.item(kind, [&words[..], &answer, &[sum]].concat());
     }
 
     fn follow(
@@ -143,7 +145,7 @@ impl Store {
         choices: &[u8],
     ) {
         let sum = sum(tables, frames);
-        self.call(8, sizes, answer.refusal, &nine(answer), sum);
+        self.call(8, sizes, of_follow(answer), sum);
         self.bytes.extend((frames.len() as u32).to_be_bytes());
         self.bytes.extend((choices.len() as u32).to_be_bytes());
         self.bytes.extend(choices);
@@ -156,11 +158,21 @@ fn sum(tables: &Tables, frames: &[u32]) -> u32 {
     tables.iter().flatten().chain(frames).fold(0, step) as u32
 }
 
-/// Nine numbers of a follow's answer.
-fn nine(followed: &Follow) -> [u32; 9] {
-    let mut nine = [0; 9];
-    nine[..6].copy_from_slice(&followed.numbers);
-    nine
+/// The numbers of a load's or an examination's answer.
+fn of_load(answer: &Answer) -> [u32; 11] {
+    let mut numbers = [0; 11];
+    numbers[0] = answer.refusal;
+    numbers[1..10].copy_from_slice(&answer.rows);
+    numbers[10] = answer.visits;
+    numbers
+}
+
+/// The numbers of a follow's answer.
+fn of_follow(followed: &Follow) -> [u32; 11] {
+    let mut numbers = [0; 11];
+    numbers[0] = followed.refusal;
+    numbers[1..7].copy_from_slice(&followed.numbers);
+    numbers
 }
 
 /// Where the pool and the symbols of File A's record begin, and where its END does.
@@ -297,17 +309,24 @@ fn order_samples(store: &mut Store) -> Result<(), String> {
     Ok(())
 }
 
-/// A load and an examination of a sample: refused, or with a row of the record and one of this table.
+/// A load and an examination of a sample: refused, or with a row of the record and one of this table, of which strings come with a visit.
 fn loaded_and_examined(
     store: &mut Store,
     file: &[u8],
     refusal: u32,
     table: usize,
 ) -> Result<(), String> {
-    let mut rows = of_records(u32::from(refusal == 0));
-    rows[table] = rows[RECORDS];
-    sample(store, 2, file, refusal, rows)?;
-    sample(store, 7, file, refusal, rows)
+    let one = u32::from(refusal == 0);
+    let mut rows = of_records(one);
+    rows[table] = one;
+    let visits = if table == STRINGS { one } else { 0 };
+    let right = Answer {
+        refusal,
+        rows,
+        visits,
+    };
+    sample_over(store, 2, &ONE_ROW, file, right)?;
+    sample_again(store, 7, &ONE_ROW, file, right)
 }
 
 /// The rows of a load that uses so many records and no other row.
@@ -336,12 +355,43 @@ fn sample_examinations(store: &mut Store, files: &[Examined]) -> Result<(), Stri
             0 => used.map(|rows| rows as u32),
             _ => [0; 9],
         };
-        sample_over(store, 7, &Sizes::of_rows(used), file, *refusal, rows)?;
+        let right = Answer {
+            refusal: *refusal,
+            rows,
+            visits: 0,
+        };
+        sample_over(store, 7, &Sizes::of_rows(used), file, right)?;
     }
     Ok(())
 }
 
-/// A load or an examination over tables of one row each: the refusal's number or 0, and the rows.
+/// Loads and examinations of files with an LVAR section, with the visits of request m).
+fn visited_samples(store: &mut Store) -> Result<(), String> {
+    for visited in visits::files() {
+        let file = &visited.file;
+        let reading = model::read(file, [usize::MAX; 9]);
+        let right = Answer {
+            refusal: 0,
+            rows: of_records(visited.records),
+            visits: visited.visits,
+        };
+        let sizes = Sizes::of_rows([visited.records.max(1) as usize, 0, 0, 0, 0, 0, 0, 0, 0]);
+        sample_over(store, 2, &sizes, file, right)?;
+        let examined = match model::passes(file, &reading.rows) {
+            Ok(()) => right,
+            Err(refusal) => Answer {
+                refusal,
+                rows: [0; 9],
+                visits: 0,
+            },
+        };
+        sample_again(store, 7, &sizes, file, examined)?;
+    }
+    store.bytes(6, b"visits of the LVAR walk");
+    Ok(())
+}
+
+/// A load or an examination over tables of one row each, without LVAR: the refusal's number or 0, and the rows.
 fn sample(
     store: &mut Store,
     kind: u32,
@@ -349,7 +399,12 @@ fn sample(
     refusal: u32,
     rows: [u32; 9],
 ) -> Result<(), String> {
-    sample_over(store, kind, &Sizes::of_rows([1; 9]), file, refusal, rows)
+    let right = Answer {
+        refusal,
+        rows,
+        visits: 0,
+    };
+    sample_over(store, kind, &ONE_ROW, file, right)
 }
 
 /// A load or an examination over tables of these sizes.
@@ -358,8 +413,19 @@ fn sample_over(
     kind: u32,
     sizes: &Sizes,
     file: &[u8],
-    refusal: u32,
-    rows: [u32; 9],
+    right: Answer,
+) -> Result<(), String> {
+    store.bytes(1, file);
+    sample_again(store, kind, sizes, file, right)
+}
+
+/// The same of the file that stands last.
+fn sample_again(
+    store: &mut Store,
+    kind: u32,
+    sizes: &Sizes,
+    file: &[u8],
+    right: Answer,
 ) -> Result<(), String> {
     replayable(sizes)?;
     let mut tables = garbage(sizes, &mut Rng::new(0, 0));
@@ -367,11 +433,10 @@ fn sample_over(
         2 => Model.load(file, &mut tables),
         _ => Model.examine(file, &mut tables),
     };
-    if answer != (Answer { refusal, rows }) {
+    if answer != right {
         return Err(format!("a sample's answer is {answer:?}"));
     }
-    store.bytes(1, file);
-    store.call(kind, sizes, refusal, &rows, sum(&tables, &[]));
+    store.call(kind, sizes, of_load(&answer), sum(&tables, &[]));
     Ok(())
 }
 
@@ -517,8 +582,7 @@ fn one_file(
         {
             expected::compare(&Model, bytes, rite, &answer, &tables)?;
         }
-        let Answer { refusal, rows } = answer;
-        store.call(2, sizes, refusal, &rows, sum(&tables, &[]));
+        store.call(2, sizes, of_load(&answer), sum(&tables, &[]));
     }
     Ok(())
 }
@@ -537,8 +601,8 @@ fn examinations(store: &mut Store, file: &[u8], rng: &mut Rng) -> Result<(), Str
     for sizes in [Sizes::of_rows(needed), other_sizes(needed, rng)] {
         replayable(&sizes)?;
         let mut tables = garbage(&sizes, rng);
-        let Answer { refusal, rows } = Model.examine(file, &mut tables);
-        store.call(7, &sizes, refusal, &rows, sum(&tables, &[]));
+        let answer = Model.examine(file, &mut tables);
+        store.call(7, &sizes, of_load(&answer), sum(&tables, &[]));
     }
     Ok(())
 }
@@ -869,14 +933,20 @@ fn replay_items(subject: &dyn Subject, stored: &[u8]) -> Result<Vec<(String, usi
             2 | 7 => {
                 let sizes = Sizes(items.numbers()?.map(|words: u32| words as usize));
                 let refusal = items.number()?;
-                let (rows, stored) = (items.numbers()?, items.number()?);
+                let rows = items.numbers()?;
+                let [visits, stored] = items.numbers()?;
                 let mut tables = garbage(&sizes, &mut rng);
                 let answer = match kind {
                     2 => subject.load(bytes, &mut tables),
                     _ => subject.examine(bytes, &mut tables),
                 };
                 let sum = sum(&tables, &[]);
-                if answer != (Answer { refusal, rows }) || sum != stored {
+                let right = Answer {
+                    refusal,
+                    rows,
+                    visits,
+                };
+                if answer != right || sum != stored {
                     return wrong(&(answer, sum));
                 }
                 answers += 1;
@@ -918,15 +988,14 @@ fn replay_items(subject: &dyn Subject, stored: &[u8]) -> Result<Vec<(String, usi
             }
             8 => {
                 let sizes = Sizes(items.numbers()?.map(|words: u32| words as usize));
-                let refusal = items.number()?;
-                let (numbers, stored): ([u32; 9], u32) = (items.numbers()?, items.number()?);
+                let (numbers, stored) = (items.numbers()?, items.number()?);
                 let mut frames = vec![1; items.number()? as usize];
                 let length = items.number()? as usize;
                 let choices = items.bytes(length)?;
                 let mut tables = garbage(&sizes, &mut rng);
                 let answer = subject.follow(bytes, &mut tables, &mut frames, choices);
                 let sum = sum(&tables, &frames);
-                if (answer.refusal, nine(&answer), sum) != (refusal, numbers, stored) {
+                if (of_follow(&answer), sum) != (numbers, stored) {
                     return wrong(&(answer, sum));
                 }
                 answers += 1;
@@ -984,10 +1053,10 @@ mod tests {
     fn a_replay_sees_a_wrong_answer() {
         let mut store = Store::default();
         store.bytes(1, &[]);
-        let mut load = [0; 20];
+        let mut load = [0; 21];
         load[8] = 2;
         load[9] = 2;
-        load[19] = 65_600;
+        load[20] = 65_600;
         store.item(2, load);
         store.bytes(1, &[57]);
         store.item(3, [24, 0, 0, 0, 0]);
@@ -999,8 +1068,8 @@ mod tests {
         let bytes = store.bytes;
         let groups = Ok(vec![("all".to_owned(), 4)]);
         assert_eq!(replay_items(&Model, &bytes), groups);
-        let [load, fetch, line] = [8, 105, 153];
-        for place in [load, load + 40, load + 80, fetch + 4, line + 12] {
+        let [load, fetch, line] = [8, 109, 157];
+        for place in [load, load + 40, load + 80, load + 84, fetch + 4, line + 12] {
             let mut changed = bytes.clone();
             changed[place + 3] ^= 1;
             assert!(replay_items(&Model, &changed).is_err(), "{place}");
@@ -1017,15 +1086,15 @@ mod tests {
         store.bytes(1, &file);
         let call = store.bytes.len();
         let end = sum(&loaded.tables, &[]);
-        store.call(7, &sizes, 0, &loaded.rows, end);
+        store.call(7, &sizes, of_load(&Answer::of(&loaded)), end);
         let run = store.bytes.len();
         // Go on once: the frame (0, 2).
         let end = sum(&loaded.tables, &[0, 2]);
-        store.call(8, &sizes, 0, &[0, 0, 2, 0, 0, 1, 0, 0, 0], end);
+        store.call(8, &sizes, [0, 0, 0, 2, 0, 0, 1, 0, 0, 0, 0], end);
         store.bytes.extend([0, 0, 0, 2, 0, 0, 0, 1, 0]);
         let finished = store.bytes.len();
         let end = sum(&loaded.tables, &[0, 0]);
-        store.call(8, &sizes, 0, &[1, 0, 0, 0, 0, 0, 0, 0, 0], end);
+        store.call(8, &sizes, [0, 1, 0, 0, 0, 0, 0, 0, 0, 0, 0], end);
         store.bytes.extend([0, 0, 0, 2, 0, 0, 0, 2, 0, 0]);
         lookups_in(
             &mut store,
@@ -1040,7 +1109,7 @@ mod tests {
         let bytes = store.bytes;
         let groups = Ok(vec![("all".to_owned(), 5)]);
         assert_eq!(replay_items(&Model, &bytes), groups);
-        let answers = [call, run, finished].map(|at| (at + 40, 11));
+        let answers = [call, run, finished].map(|at| (at + 40, 12));
         for (at, numbers) in answers
             .into_iter()
             .chain([(looked + 16, 6), (pool + 12, 8)])

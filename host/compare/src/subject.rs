@@ -1,12 +1,23 @@
 //! What is held against the original: the papers' model and, where it is linked, the port.
 
-use model::{Constant, Entry, FoundText, NAMES, Refusal, Sizes, Tables};
+use model::{Constant, Entry, FoundText, Loaded, NAMES, Refusal, Sizes, Tables};
 
-/// The answer of a load: the refusal's number or 0, and the rows used.
+/// The answer of a load: the refusal's number or 0, the rows used and the visits of the LVAR walk.
 #[derive(Debug, Clone, Copy, PartialEq, Eq)]
 pub struct Answer {
     pub refusal: Refusal,
     pub rows: [u32; 9],
+    pub visits: u32,
+}
+
+impl Answer {
+    pub fn of(loaded: &Loaded) -> Answer {
+        Answer {
+            refusal: loaded.refusal,
+            rows: loaded.rows,
+            visits: loaded.visits,
+        }
+    }
 }
 
 /// The answer of a fetch: the refusal's number or 0, the kind's number, the operands.
@@ -118,20 +129,16 @@ impl Subject for Model {
 
     fn load(&self, file: &[u8], tables: &mut Tables) -> Answer {
         let loaded = model::load(file, &lent(tables));
+        let answer = Answer::of(&loaded);
         *tables = loaded.tables;
-        Answer {
-            refusal: loaded.refusal,
-            rows: loaded.rows,
-        }
+        answer
     }
 
     fn examine(&self, file: &[u8], tables: &mut Tables) -> Answer {
         let loaded = model::examine(file, &lent(tables));
+        let answer = Answer::of(&loaded);
         *tables = loaded.tables;
-        Answer {
-            refusal: loaded.refusal,
-            rows: loaded.rows,
-        }
+        answer
     }
 
     fn follow(

@@ -320,12 +320,15 @@ fn read_end(file: &[u8], start: usize) -> Result<usize, Refusal> {
     Ok(size)
 }
 
-/// Visits a record and then its children in turn; answers the record that comes next.
+/// Visits a record and then its children in turn, one visit at a time, and counts the visits; answers the record that comes next.
 fn walk(
     number: usize,
     rlens: &[u32],
+    visits: &mut u64,
     visit: &mut dyn FnMut(usize) -> Result<Visit, Refusal>,
 ) -> Result<usize, Refusal> {
+    // "those past the last record included"
+    *visits += 1;
     // "a visit past the last record reads nothing"
     if number >= rlens.len() {
         return Ok(number);
@@ -336,12 +339,7 @@ fn walk(
     }
     let mut next = number + 1;
     for _ in 0..rlens[number] {
-        let after = walk(next, rlens, visit)?;
-        // After a visit that reads nothing every later one reads nothing.
-        if after == next {
-            break;
-        }
-        next = after;
+        next = walk(next, rlens, visits, visit)?;
     }
     Ok(next)
 }
@@ -365,10 +363,13 @@ fn read_lvar(file: &[u8], start: usize, rows: &mut Rows) -> Result<usize, Refusa
         let text = read_text(&mut part)?;
         rows.strings.need(text)?;
     }
-    walk(0, &rlens(rows), &mut |number| {
+    let mut visits = 0;
+    walk(0, &rlens(rows), &mut visits, &mut |number| {
         read_names(&mut part, rows, number, count)?;
         Ok(Visit::Read)
     })?;
+    // "The load result carries the number of visits that the LVAR walk made".
+    rows.visits = visits;
     // "Size is tested after the content."
     size_is_in_file(file, start, size)?;
     size_is_not_0(size)?;
@@ -406,7 +407,7 @@ fn read_dbg(file: &[u8], start: usize, rows: &mut Rows) -> Result<usize, Refusal
         let text = read_text(&mut part)?;
         rows.file_names.need(text)?;
     }
-    walk(0, &rlens(rows), &mut |number| {
+    walk(0, &rlens(rows), &mut 0, &mut |number| {
         // "a visit also reads nothing once the section is used up"
         if part.place == part.end {
             return Ok(Visit::ReadNothing);

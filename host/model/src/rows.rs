@@ -49,6 +49,8 @@ pub struct Loaded {
     pub refusal: Refusal,
     /// "Load answers how many rows each table uses"; zero after a refusal.
     pub rows: [u32; 9],
+    /// "the number of visits that the LVAR walk made": 0 without an LVAR section and after a refusal.
+    pub visits: u32,
     /// Rows and then zeros; zero throughout after a refusal.
     pub tables: Tables,
 }
@@ -59,6 +61,7 @@ impl Loaded {
         Loaded {
             refusal: number,
             rows: [0; 9],
+            visits: 0,
             tables: lent.zeros(),
         }
     }
@@ -251,7 +254,7 @@ impl<Row: Words> Table<Row> {
     }
 }
 
-/// The rows of the nine tables.
+/// The rows of the nine tables, and the visits of the LVAR walk.
 #[derive(Debug, Clone, PartialEq, Eq)]
 pub struct Rows {
     pub records: Table<Record>,
@@ -263,6 +266,7 @@ pub struct Rows {
     pub file_names: Table<Text>,
     pub files: Table<DebugFile>,
     pub lines: Table<Entry>,
+    pub visits: u64,
 }
 
 impl Rows {
@@ -278,6 +282,7 @@ impl Rows {
             file_names: Table::lent(rows[6]),
             files: Table::lent(rows[7]),
             lines: Table::lent(rows[8]),
+            visits: 0,
         }
     }
 
@@ -302,6 +307,7 @@ impl Rows {
         Loaded {
             refusal: 0,
             rows: self.used().map(|rows| rows as u32),
+            visits: u32::try_from(self.visits).expect("at most 1 + 1,024 * 65,535 visits"),
             tables: [
                 self.records.laid_out(words[0]),
                 self.handlers.laid_out(words[1]),

@@ -31,6 +31,12 @@ pub fn run(
                 let counts = pattern.counts();
                 let records = counted(counts.records.into(), "record");
                 writeln!(out, "{name}: {}", style.good(&format!("loads: {records}")))?;
+                let walk = verdict::name_walk(counts);
+                let walk = match counts.name_walk().is_far() {
+                    true => style.bad(&walk),
+                    false => style.dim(&walk),
+                };
+                writeln!(out, "  {walk}")?;
                 write_tables(out, style, pattern, all)?;
             }
             Err(refusal) => {
@@ -440,8 +446,7 @@ fn write_rows(json: &mut Json, pattern: &Pattern, all: bool) -> io::Result<()> {
         false => (MOST_SHOWN, SHARED_TEXT),
     };
     let counts = pattern.counts();
-    json.key("rows")?
-        .object(|json| count_members(json, counts))?;
+    count_members(json, counts)?;
     let widest = counts.handlers.max(counts.constants).max(counts.symbols);
     json.key("cut")?.boolean(u64::from(widest) > most)?;
     let mut left = Left {

@@ -1,8 +1,8 @@
 //! The verdict on a file, and where a refusal lies.
 
 use super::json::Json;
-use super::text::{counted, visible};
-use blotheath::{Counts, Pattern, Place, Refusal, examine, load, locate, looks_like};
+use super::text::{counted, grouped, visible};
+use blotheath::{Counts, NameWalk, Pattern, Place, Refusal, examine, load, locate, looks_like};
 use std::io;
 
 /// What examination says of a file.
@@ -70,9 +70,7 @@ impl<'a> Verdict<'a> {
     pub fn members(&self, json: &mut Json) -> io::Result<()> {
         json.key("passes")?.boolean(self.passes())?;
         match self {
-            Verdict::Passes(pattern) => json
-                .key("rows")?
-                .object(|json| count_members(json, pattern.counts())),
+            Verdict::Passes(pattern) => count_members(json, pattern.counts()),
             Verdict::Refused {
                 refusal,
                 place,
@@ -133,16 +131,60 @@ pub fn told(place: &Place) -> String {
     }
 }
 
-/// How many rows each table uses, as members.
+/// How many rows each table uses, and how many visits the walk over the local names makes, as members.
 pub fn count_members(json: &mut Json, counts: Counts) -> io::Result<()> {
-    for (name, number) in named(counts) {
-        json.key(name)?.number(number)?;
-    }
-    Ok(())
+    json.key("rows")?.object(|json| {
+        for (name, number) in rows(counts) {
+            json.key(name)?.number(number)?;
+        }
+        Ok(())
+    })?;
+    json.key("visits")?.number(counts.visits)?;
+    json.key("name_walk")?.string(&name_walk(counts))
 }
 
-/// The counts with their names.
-pub fn named(counts: Counts) -> [(&'static str, u32); 9] {
+/// How far the walk over the local names goes, in words.
+pub fn name_walk(counts: Counts) -> String {
+    let visits = counted(counts.visits.into(), "visit");
+    let walk = counts.name_walk();
+    match walk {
+        NameWalk::None => {
+            "the file has no local names (no LVAR section), so no visit is made".to_owned()
+        }
+        NameWalk::Whole => {
+            format!("the walk over the local names makes {visits}, one to each record")
+        }
+        NameWalk::Short { unreached: 1 } => {
+            format!(
+                "the walk over the local names makes {visits}; 1 record is never reached, and its locals have no names"
+            )
+        }
+        NameWalk::Short { unreached } => {
+            let unreached = grouped(unreached.into());
+            format!(
+                "the walk over the local names makes {visits}; {unreached} records are never reached, and their locals have no names"
+            )
+        }
+        NameWalk::Past { past } => {
+            let (past, records) = (
+                grouped(past.into()),
+                counted(counts.records.into(), "record"),
+            );
+            let told = format!(
+                "the walk over the local names makes {visits} for {records}, {past} of them past the last"
+            );
+            match walk.is_far() {
+                true => format!(
+                    "{told}: the records claim far more children than there are, and a program that makes these visits one by one loads the file slowly"
+                ),
+                false => told,
+            }
+        }
+    }
+}
+
+/// The rows that the tables use, with their names.
+fn rows(counts: Counts) -> [(&'static str, u32); 9] {
     [
         ("records", counts.records),
         ("handlers", counts.handlers),

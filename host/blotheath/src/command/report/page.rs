@@ -8,8 +8,8 @@ use crate::command::labels::labels;
 use crate::command::meaning::Reader;
 use crate::command::sha256;
 use crate::command::text::{self, counted, grouped};
-use crate::command::verdict::{Verdict, told};
-use blotheath::{DOUBT, FILE_LIMIT, Pattern, Place, Refusal, Tree};
+use crate::command::verdict::{Verdict, name_walk, told};
+use blotheath::{DOUBT, FILE_LIMIT, NameWalk, Pattern, Place, Refusal, Tree};
 use std::collections::BTreeSet;
 use std::io::{self, Write};
 
@@ -142,6 +142,9 @@ impl Page<'_> {
             self.place(out, place)?;
         }
         self.facts(out)?;
+        if let Some(told) = self.other_walk() {
+            writeln!(out, "<p class=\"caution\">{}</p>", escape(&sentence(&told)))?;
+        }
         if let Some(told) = self.other_source() {
             writeln!(out, "<p class=\"caution\">{}</p>", escape(&told))?;
         }
@@ -192,6 +195,15 @@ impl Page<'_> {
             writeln!(out, "<div{class}><dt>{name}</dt><dd>{value}</dd></div>")?;
         }
         writeln!(out, "</dl>")
+    }
+
+    /// How far the walk over the local names goes, where it is not one visit to each record.
+    fn other_walk(&self) -> Option<String> {
+        let counts = self.verdict.pattern()?.counts();
+        match counts.name_walk() {
+            NameWalk::None | NameWalk::Whole => None,
+            NameWalk::Short { .. } | NameWalk::Past { .. } => Some(name_walk(counts)),
+        }
     }
 
     /// Why the lines of the source are not shown, where they are not.
