@@ -1,5 +1,5 @@
 -- Load: a file's reading and lent tables of given sizes. "14: a needed row is beyond its lent table or the 1,024 records": what was read is what
--- was needed, so 14 is met where that does not fit; else the load ends as the reading does.
+-- was needed, so 14 is met where that does not fit; else the load ends as the reading does. Paper 02, m): its answer carries the visits, too.
 -- Assumes nothing.
 use Prim.Native.Nat.{ℕ, _+_, _/_}
 use mathlib.Core.Bool.{Bool, cond, _&&_}
@@ -9,12 +9,11 @@ use lib.Dec.{leb}
 use lib.ListN.{length, getD, drop}
 use Rattle.format.specs.Bytes.{Answer, ok, refused, onAnswer}
 use Rattle.format.specs.Reading.{Part}
-use Rattle.format.specs.Rows.{Range, range, RecordRow, HandlerRow, PoolRow, TextRow, NameRow, FileRow, LineRow, recordWords, handlerWords}
+use Rattle.format.specs.Rows.{range, RecordRow, HandlerRow, PoolRow, TextRow, NameRow, FileRow, LineRow, recordWords, handlerWords}
 use Rattle.format.specs.Rows.{poolWords, textWords, nameWords, fileWords, lineWords, tableOf}
 use Rattle.format.specs.Irep.{Rec}
 use Rattle.format.specs.Walk.{visits}
-use Rattle.format.specs.Lvar.{Lvar}
-use Rattle.format.specs.Debug.{File, Debug}
+use Rattle.format.specs.Debug.{File}
 use Rattle.format.specs.File.{Content, nothing, fileReading}
 
 -- lists one after another

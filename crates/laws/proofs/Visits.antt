@@ -11,7 +11,7 @@ use Rattle.format.specs.Bytes.{ok, u32At}
 use Rattle.format.specs.Irep.{Rec}
 use Rattle.format.specs.Walk.{visits}
 use Rattle.format.specs.Lvar.{Lvar, recordNames}
-use Rattle.format.specs.File.{Content, content, fileReading}
+use Rattle.format.specs.File.{Content, content}
 use Rattle.format.specs.Load.{Nine, recordsOf, namesOf, filesOf, start, tablesOf, used, visitsOf, loading, load}
 use Rattle.format.specs.Tree.{total, Whole, span}
 use Rattle.format.specs.Pattern.{patternOf}

@@ -157,6 +157,7 @@ fn hostile_files() {
     println!(
         "| file | bytes | answer | load | examine | follow | original's load |\n|---|---|---|---|---|---|---|"
     );
+    let mut far = Vec::new();
     for (name, file) in hostile::files() {
         let mut load = || timing::keep(blotheath::load(&file).is_ok());
         let mut examine = || timing::keep(blotheath::examine(&file).is_ok());
@@ -182,5 +183,15 @@ fn hostile_files() {
             shown(times[2]),
             shown(original)
         );
+        if let Ok(pattern) = blotheath::load(&file)
+            && pattern.counts().name_walk().is_far()
+        {
+            let (visits, micros) = (pattern.counts().visits, micros(times[0]));
+            far.push(format!(
+                "{name}: {visits} visits, load {micros:.0} microseconds"
+            ));
+        }
     }
+    println!("\nWalks over the local names that go far beyond the records:\n");
+    far.iter().for_each(|walk| println!("- {walk}"));
 }

@@ -9,7 +9,7 @@ use crate::newer::NEWER;
 use crate::prefixes::PREFIXES;
 use crate::registers;
 use crate::rng::Rng;
-use crate::subject::{Answer, Subject, first_difference, subjects};
+use crate::subject::{Subject, answers_as, subjects};
 use model::{OPCODES, Record, Refusal, Sizes, Step};
 use std::collections::{BTreeMap, BTreeSet};
 
@@ -187,20 +187,8 @@ fn one(subjects: &[Box<dyn Subject>], file: &[u8], rng: &mut Rng) -> Result<[Ref
         for subject in subjects {
             let mut tables = garbage(&sizes, rng);
             let answer = subject.examine(file, &mut tables);
-            let name = subject.name();
-            let by_model = Answer::of(&right);
-            if answer != by_model {
-                return Err(format!(
-                    "over {:?} words {name} answers {answer:?}, the model {by_model:?}",
-                    sizes.0
-                ));
-            }
-            if let Some(difference) = first_difference(&tables, &right.tables) {
-                return Err(format!(
-                    "over {:?} words {name} and the model: {difference}",
-                    sizes.0
-                ));
-            }
+            answers_as(subject.name(), answer, &tables, &right)
+                .map_err(|why| format!("over {:?} words {why}", sizes.0))?;
         }
     }
     Ok(numbers)

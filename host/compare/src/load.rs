@@ -7,7 +7,7 @@ use crate::generate::{FAMILIES, Generator, state_size};
 use crate::held::Held;
 use crate::oracle::{self, OWN_RULE, Outcome};
 use crate::rng::Rng;
-use crate::subject::{Answer, Subject, first_difference, subjects};
+use crate::subject::{Subject, answers_as, subjects};
 use model::{Entry, HEADER, Loaded, NAMES, ROW_WORDS, Record, Refusal, Rows, Sizes, Tables};
 use original::Error;
 use std::collections::BTreeMap;
@@ -516,20 +516,8 @@ fn as_model(
     for subject in subjects {
         let mut tables = garbage(sizes, rng);
         let answer = subject.load(file, &mut tables);
-        let name = subject.name();
-        let by_model = Answer::of(right);
-        if answer != by_model {
-            return Err(format!(
-                "over {:?} words {name} answers {answer:?}, the model {by_model:?}",
-                sizes.0
-            ));
-        }
-        if let Some(difference) = first_difference(&tables, &right.tables) {
-            return Err(format!(
-                "over {:?} words {name} and the model: {difference}",
-                sizes.0
-            ));
-        }
+        answers_as(subject.name(), answer, &tables, right)
+            .map_err(|why| format!("over {:?} words {why}", sizes.0))?;
     }
     Ok(())
 }

@@ -261,6 +261,23 @@ pub fn subjects() -> Vec<Box<dyn Subject>> {
     ]
 }
 
+/// Holds an answer of a load or an examination, and all words of its tables, against the model's.
+pub fn answers_as(
+    name: &str,
+    answer: Answer,
+    tables: &Tables,
+    right: &Loaded,
+) -> Result<(), String> {
+    let by_model = Answer::of(right);
+    if answer != by_model {
+        return Err(format!("{name} answers {answer:?}, the model {by_model:?}"));
+    }
+    match first_difference(tables, &right.tables) {
+        Some(difference) => Err(format!("{name} and the model: {difference}")),
+        None => Ok(()),
+    }
+}
+
 /// Where two lists of tables differ first.
 pub fn first_difference(one: &Tables, other: &Tables) -> Option<String> {
     for t in 0..9 {
