@@ -25,13 +25,15 @@ const LOAD: &str = "\
 blotheath load FILE [--json] [--all]
 
 How many visits the walk over the local names makes, and the rows of a file that loads: records, handlers, constants,
-symbols, local names, debug files, lines. The walk visits record 0 and, of each record that it visits, as many children as it
-claims to have, past the last record too: in what a compiler writes, one visit to each record. Records that it never reaches
-have no names; visits that go far beyond the records are told, since other programs may take long to make them. In JSON
-\"visits\" is their number, \"name_walk\" the sentence. Text is escaped; a
-zero byte, which a constant may have inside, is \\0, or \\x00 before a digit from 0 to 7. Up to 65,536 rows of a kind are
-shown, as many as a file without overlapping records can have, and up to 48 bytes of a text, on a terminal as in a pipe;
---all shows every row, and every text whole. Loading does not examine: exit status 0 says that the file loads.
+symbols, local names, debug files, lines. The walk visits record 0 and, of each record that it visits, as many children
+as it claims to have, past the last record too: in what a compiler writes, one visit to each record. Records that it
+never reaches have no names; visits that go far beyond the records are told, since other programs may take long to make
+them. In JSON \"visits\" is their number, \"name_walk\" the sentence.
+
+Text is escaped; a zero byte, which a constant may have inside, is \\0, or \\x00 before a digit from 0 to 7. Up to
+65,536 rows of a kind are shown, as many as a file without overlapping records can have, and up to 48 bytes of a text,
+on a terminal as in a pipe; --all shows every row, and every text whole. Loading does not examine: exit status 0 says
+that the file loads.
 
 JSON has constants, symbols, strings and file names whole; a local's name and a record's file name, which many rows may
 share, have up to 256 bytes without --all, and \"cut\" where that is not all. A whole number beyond 2^53, which many readers
