@@ -61,7 +61,7 @@ extern "C" {
 /* The answer of a load or an examination: the refusal's number, and then every count is 0; or 0, the rows used of each table, and the visits that
    the walk over the local names (LVAR) made. The walk visits record 0 and then, of each record that it visits, as many children as its row says
    (rlen). A visit past the last record reads nothing, and is counted too. So visits is
-       0                           without an LVAR section
+       0                           without an LVAR section; and with one
        the number of records       where they are one whole tree, as in every file that passes
        less than that, and not 0   where the records from number visits on are never reached, and have no names
        more than that              where the visits that are more went past the last record
