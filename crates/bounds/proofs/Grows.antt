@@ -5,7 +5,7 @@ use native.Mathlib.Nat.{le-refl, le-trans}
 use native.Mathlib.Omega.{arith}
 use mathlib.Core.Path.{_≡_, refl}
 use mathlib.Core.Bool.{Bool, true, false, cond}
-use mathlib.Core.List.{List, []}
+use mathlib.Core.List.{List}
 use mathlib.Core.Option.{Option, none, some}
 use lib.ListN.{length, drop}
 use Rattle.format.specs.Bytes.{Answer, ok, refused, onAnswer, has}
@@ -15,8 +15,8 @@ use Rattle.format.specs.Irep.{Rec, irepSection}
 use Rattle.format.specs.Lvar.{Lvar, lvarSection}
 use Rattle.format.specs.Debug.{Debug, debugSection}
 use Rattle.format.specs.File.{Content, content, nothing, isMark, once, afterIrep, endSection, sectionAt, sections}
-use Rattle.format.specs.Load.{start, namesOf, filesOf, tablesOf}
-use Rattle.format.proofs.Places.{rows-length}
+use Rattle.format.specs.Load.{tablesOf}
+use Rattle.format.proofs.Places.{records-length}
 
 -- LVAR and DBG come only behind IREP
 abbrev pub Ordered : Option (List Rec) → Option Lvar → Option Debug → Type 0
@@ -73,10 +73,8 @@ from-nothing c =
 
 with-lvar : (rs : List Rec) (l : Lvar) (d : Option Debug) → Less (content (some rs) none d) (content (some rs) (some l) d)
 with-lvar rs l d =
-    let e = rows-length rs start [] (filesOf (content (some rs) none d)) in
-    let e′ = rows-length rs start (l .names) (filesOf (content (some rs) none d)) in
     record {
-      records = omega arith;
+      records = omega (arith, records-length (content (some rs) none d), records-length (content (some rs) (some l) d));
       handlers = le-refl _;
       pool = le-refl _;
       symbols = le-refl _;
@@ -89,10 +87,8 @@ with-lvar rs l d =
 
 with-dbg : (rs : List Rec) (l : Option Lvar) (d : Debug) → Less (content (some rs) l none) (content (some rs) l (some d))
 with-dbg rs l d =
-    let e = rows-length rs start (namesOf (content (some rs) l none)) [] in
-    let e′ = rows-length rs start (namesOf (content (some rs) l none)) (d .files) in
     record {
-      records = omega arith;
+      records = omega (arith, records-length (content (some rs) l none), records-length (content (some rs) l (some d)));
       handlers = le-refl _;
       pool = le-refl _;
       symbols = le-refl _;

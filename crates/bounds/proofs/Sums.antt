@@ -12,7 +12,7 @@ use Rattle.format.specs.Irep.{handler, symbolText, poolEntry, counted, headAt, 
 use Rattle.format.specs.Load.{gathered}
 use Rattle.format.specs.Tree.{total}
 use Rattle.format.proofs.Answers.{either}
-use Rattle.format.proofs.Walk.{rlens}
+use Rattle.format.specs.Walk.{rlens}
 use Rattle.bounds.proofs.Covers.{inTurn-count}
 
 -- what holds of no rows and of those that follow holds wherever reading ended

@@ -8,11 +8,11 @@ use mathlib.Core.List.{List, [], _∷_, _++_, append-assoc, append-nil}
 use mathlib.Core.Option.{Option, none, some}
 use lib.Dec.{leb, ltb, eqb}
 use lib.ListN.{length, take, length-append}
-use borrow.Author.Tests.{lt-ltb, le-ltb, ltb-true, ltb-false}
+use borrow.Author.Tests.{ltb-true, ltb-false}
 use Rattle.format.specs.Bytes as bytes
 use Rattle.format.specs.Bytes.{Answer, ok, refused, Step, has, u16At, u32At}
 use Rattle.format.specs.Reading.{Read, reading, Part, part, add, andThen, inTurn}
-use Rattle.format.specs.Rows.{range, TextRow, NameRow, FileRow, LineRow, recordWords, textWords, fileWords, lineWords, tableOf}
+use Rattle.format.specs.Rows.{range, TextRow, NameRow, FileRow, LineRow, recordWidth, recordWords, textWords, fileWords, lineWords, tableOf}
 use Rattle.format.specs.Irep.{Rec}
 use Rattle.format.specs.Walk as format
 use Rattle.format.specs.Lvar.{plainText}
@@ -187,7 +187,7 @@ module _ (s : List ℕ) (names mf ml : ℕ) where
 -- the walk, with so many words for the records, the files and the lines; the records have the names nss
 module _ (s : List ℕ) (names m mf ml : ℕ) (nss : List (List NameRow)) where
   abbrev R : List Rec → List (List File) → List ℕ
-  R rs fss = tableOf recordWords m (recordRows start rs nss fss)
+  R rs fss = tableOf recordWords m (recordRows start rs nss fss [])
 
   -- the records rs, of which the first have the files fss
   abbrev there : List Rec → List (List File) → ℕ → State
@@ -230,7 +230,7 @@ module _ (s : List ℕ) (names m mf ml : ℕ) (nss : List (List NameRow)) where
     rlen-is = rw e (record-word m start qs r rs nss fss 3 (omega arith))
 
     put-is : (fs : List File)
-        → putRanges (R all fss) (length fss * 19) (held-files mf ml at (joined fss) .used) (held-files mf ml at (joined fss ++ fs) .used) ≡ R all (fss ++ fs ∷ [])
+        → putRanges (R all fss) (length fss * recordWidth) (held-files mf ml at (joined fss) .used) (held-files mf ml at (joined fss ++ fs) .used) ≡ R all (fss ++ fs ∷ [])
     put-is fs =
         let f : length (joined fss ++ fs) - length (joined fss) ≡ length fs = rw length-append (omega arith) in
         let l : length (mapOfFiles (joined fss ++ fs)) - length (mapOfFiles (joined fss)) ≡ length (mapOfFiles fs) =
@@ -263,7 +263,7 @@ module _ (s : List ℕ) (names m mf ml : ℕ) (nss : List (List NameRow)) where
             onRun o
             (λ sp.
             cond (eqb (sp .at - at) (u32At s at))
-            (go (state (length fss + 1) (putRanges (R all fss) (length fss * 19) (st .spot .used) (sp .used)) sp))
+            (go (state (length fss + 1) (putRanges (R all fss) (length fss * recordWidth) (st .spot .used) (sp .used)) sp))
             (stop 12 (held (R all fss) (sp .tabs))))
             (λ k t. stop k (held (R all fss) t))
 
@@ -321,7 +321,7 @@ module _ (m : Nine) (base : ℕ) (rs : List Rec) (nss : List (List NameRow)) whe
   -- what the tables hold once the section is read as d
   abbrev pub held-debug : Debug → Tables
   held-debug d =
-      tables (tableOf recordWords (m .records) (recordRows start rs nss (d .files)))
+      tables (tableOf recordWords (m .records) (recordRows start rs nss (d .files) []))
       (tableOf textWords (m .fileNames) (d .fileNames))
       (tableOf fileWords (m .files) (fileRows 0 (joined (d .files))))
       (tableOf lineWords (m .lines) (mapOfFiles (joined (d .files))))

@@ -10,6 +10,7 @@ use lib.Dec.{leb, eqb}
 use lib.ListN.{length}
 use borrow.Author.Tests.{leb-true, leb-false}
 use Rattle.format.specs.Bytes.{has, u16At, u32At}
+use Rattle.format.specs.Rows.{recordWidth}
 use Rattle.line.specs.declared.Pos.{Pos}
 use Rattle.rows.specs.Walk.{Run, go, stop}
 use Rattle.rows.specs.Walk as generic
@@ -56,7 +57,7 @@ step-next s names st st′ e =
         (onRun o
         (λ sp.
         cond (eqb (sp .at - st .spot .at) (u32At s (st .spot .at)))
-        (go (state (st .rec + 1) (putRanges (st .records) (st .rec * 19) (st .spot .used) (sp .used)) sp))
+        (go (state (st .rec + 1) (putRanges (st .records) (st .rec * recordWidth) (st .spot .used) (sp .used)) sp))
         (stop 12 (held (st .records) (sp .tabs))))
         (λ k t. stop k (held (st .records) t)))
         (stop 7 (held (st .records) (st .spot .tabs)))

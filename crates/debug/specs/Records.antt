@@ -7,7 +7,7 @@ use mathlib.Core.Option.{Option, none, some}
 use lib.Dec.{leb, ltb, eqb}
 use lib.ListN.{length, getD, set}
 use Rattle.format.specs.Bytes.{onAnswer, has, u16At, u32At}
-use Rattle.format.specs.Rows.{range, fileWords}
+use Rattle.format.specs.Rows.{range, fileWords, recordWidth}
 use Rattle.format.specs.Debug.{FileHead, fileHead}
 use Rattle.rows.specs.Table.{onRows, rowCount, firstOf, putOf}
 use Rattle.rows.specs.Walk.{Run, go, stop, bind, walk}
@@ -119,14 +119,14 @@ stepOf s names st =
     (onRun (filesOf s names (u16At s (st .spot .at + 4)) none (spot (st .spot .at + 6) (st .spot .used) (st .spot .tabs)))
     (λ sp.
     cond (eqb (sp .at - st .spot .at) (u32At s (st .spot .at)))
-    (go (state (st .rec + 1) (putRanges (st .records) (st .rec * 19) (st .spot .used) (sp .used)) sp))
+    (go (state (st .rec + 1) (putRanges (st .records) (st .rec * recordWidth) (st .spot .used) (sp .used)) sp))
     (stop 12 (held (st .records) (sp .tabs))))
     (λ k t. stop k (held (st .records) t)))
     (stop 7 (held (st .records) (st .spot .tabs)))
 
 -- rlen, of the record's row
 abbrev pub kidsOf : State → ℕ
-kidsOf st = getD (st .records) (st .rec * 19 + 3) 0
+kidsOf st = getD (st .records) (st .rec * recordWidth + 3) 0
 
 abbrev pub usedUp : List ℕ → State → Bool
 usedUp s st = leb (length s) (st .spot .at)

@@ -4,6 +4,7 @@ use binfmt::rest;
 use binfmt::u8_in;
 use binfmt::u16_in;
 use binfmt::u32_in;
+use format::RECORD_WIDTH;
 use headers::section_size;
 use line::Pos;
 use linemap::between;
@@ -20,6 +21,7 @@ ghost use mathlib.Core.Option.{none};
 ghost use Prim.Native.Nat.{_+_, _*_, _≤_, _<_};
 ghost use lib.ListN.{length};
 ghost use Rattle.format.specs.Debug.{above, fileHead};
+ghost use Rattle.format.specs.Rows.{recordWidth};
 ghost use Rattle.debug.specs.Answers.{startOf, fileHeadOf, headOf};
 ghost use Rattle.debug.specs.Records.{tabs, spot, state, fileRun, filesRun, walkRun, bodyOf, fileOf, filesOf, putRanges, stepOf, readsNothing, walkOf};
 ghost use Rattle.debug.specs.Section.{tables, filled, walked, walkedOf, contentOf, debugOf};
@@ -244,7 +246,7 @@ fn read_record(
     lines: &mut [u32],
     used: Used,
 ) -> Walk
-    requires { ⌜ rec * 19 + 18 < length (now records) ⌝ }
+    requires { ⌜ rec * recordWidth + 18 < length (now records) ⌝ }
     ensures { λ r. ⌜ walkRun r (now (records .exit)) (now (files .exit)) (now (lines .exit))
         ≡ stepOf (now (s .entry)) names (state rec (now (records .entry)) (spot at used (tabs (now (files .entry)) (now (lines .entry))))) ⌝ }
 {
@@ -263,7 +265,7 @@ fn read_record(
             if between(at, end) != size {
                 return Walk::Refused(12);
             }
-            put_ranges(records, rec * 19, used, more);
+            put_ranges(records, rec * RECORD_WIDTH, used, more);
             Walk::Next {
                 at: end,
                 rec: next,
@@ -295,14 +297,14 @@ fn read_debug_record(
     lines: &mut [u32],
     used: Used,
 ) -> Walk
-    requires { ⌜ count * 19 ≤ length (now records) ⌝ }
+    requires { ⌜ count * recordWidth ≤ length (now records) ⌝ }
     ensures { λ r. ⌜ walkRun r (now (records .exit)) (now (files .exit)) (now (lines .exit))
         ≡ walkOf (now (s .entry)) names count 1 (state rec (now (records .entry)) (spot at used (tabs (now (files .entry)) (now (lines .entry))))) ⌝ }
 {
     if reads_nothing(s, at, count, rec) {
         return Walk::Next { at, rec, used };
     }
-    let rlen = records[rec * 19 + 3];
+    let rlen = records[rec * RECORD_WIDTH + 3];
     match read_record(s, names, at, rec, records, files, lines, used) {
         Walk::Refused(k) => Walk::Refused(k),
         Walk::Next {
@@ -358,7 +360,7 @@ fn read_walk(
     lines: &mut [u32],
     texts: u32,
 ) -> Debug
-    requires { ⌜ (length (now s) ≤ 65536) × (count * 19 ≤ length (now records)) ⌝ }
+    requires { ⌜ (length (now s) ≤ 65536) × (count * recordWidth ≤ length (now records)) ⌝ }
     ensures { λ r. ⌜ walked r (now (records .exit)) (now (files .exit)) (now (lines .exit))
         ≡ walkedOf (now (s .entry)) names count texts at (now (records .entry)) (tabs (now (files .entry)) (now (lines .entry))) ⌝ }
 {
@@ -388,7 +390,7 @@ fn read_content(
     files: &mut [u32],
     lines: &mut [u32],
 ) -> Debug
-    requires { ⌜ (base + length (now s) ≤ 65536) × (count * 19 ≤ length (now records)) ⌝ }
+    requires { ⌜ (base + length (now s) ≤ 65536) × (count * recordWidth ≤ length (now records)) ⌝ }
     ensures { λ r. ⌜ filled r (tables (now (records .exit)) (now (texts .exit)) (now (files .exit)) (now (lines .exit)))
         ≡ contentOf (now (s .entry)) base count (tables (now (records .entry)) (now (texts .entry)) (now (files .entry)) (now (lines .entry))) ⌝ }
 {
@@ -412,7 +414,7 @@ pub fn parse_debug_section(
     files: &mut [u32],
     lines: &mut [u32],
 ) -> Debug
-    requires { ⌜ (base + length (now f) ≤ 65536) × (count * 19 ≤ length (now records)) ⌝ }
+    requires { ⌜ (base + length (now f) ≤ 65536) × (count * recordWidth ≤ length (now records)) ⌝ }
     ensures { λ r. ⌜ filled r (tables (now (records .exit)) (now («file_names» .exit)) (now (files .exit)) (now (lines .exit)))
         ≡ debugOf (now (f .entry)) base count (tables (now (records .entry)) (now («file_names» .entry)) (now (files .entry)) (now (lines .entry))) ⌝ }
 {

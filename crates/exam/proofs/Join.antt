@@ -12,7 +12,7 @@ use Rattle.format.specs.Bytes.{refuse, first}
 use Rattle.format.specs.Insn.{Role, reg, pool, sym as symbol, child, plain, roles, rest, rowAt, operandsAt}
 use Rattle.format.specs.Registers.{Range, registersAt}
 use Rattle.format.specs.Line.{rowsFrom}
-use Rattle.format.specs.Lookup.{word}
+use Rattle.format.specs.Lookup.{recordWord}
 use Rattle.format.specs.Tree.{layout, whole}
 use Rattle.format.specs.Pattern.{Record, rlens}
 use Rattle.format.specs.Exam.{below, allBelow, operandsBelow, rangeBelow, bounded, follows, firstAt, at1718, exam1718, exam19, exam20, examineRecord, examineAll, examinePattern}
@@ -65,21 +65,21 @@ module _ (l : List ℕ) (R : Record) (s : Same l R) where
 
 -- the words that the code reads, and two that it counts
 abbrev pub limitsAt : List ℕ → ℕ → ℕ → ℕ → List ℕ
-limitsAt recs r p t = 65536 ∷ word 19 recs r 2 ∷ word 19 recs r 10 ∷ word 19 recs r 12 ∷ word 19 recs r 3 ∷ p ∷ t ∷ []
+limitsAt recs r p t = 65536 ∷ recordWord recs r 2 ∷ recordWord recs r 10 ∷ recordWord recs r 12 ∷ recordWord recs r 3 ∷ p ∷ t ∷ []
 
 module _ (f recs hs ls : List ℕ) (r : ℕ) where
-  pub record-is : (a e h hn l ln n p t : ℕ) → a ≡ word 19 recs r 6 → n ≡ word 19 recs r 5 → e ≡ a + n
-      → h ≡ word 19 recs r 7 → hn ≡ word 19 recs r 8 → l ≡ word 19 recs r 17 → ln ≡ word 19 recs r 18
+  pub record-is : (a e h hn l ln n p t : ℕ) → a ≡ recordWord recs r 6 → n ≡ recordWord recs r 5 → e ≡ a + n
+      → h ≡ recordWord recs r 7 → hn ≡ recordWord recs r 8 → l ≡ recordWord recs r 17 → ln ≡ recordWord recs r 18
       → examinePart (limitsAt recs r p t) (take (e - a) (drop a f)) hs h hn ls l ln ≡ examineRecord (recordAt f recs hs ls r)
   unfolding examineRecord exam19 exam20
   record-is a e h hn l ln n p t ea en ee eh ehn el eln =
-      let d : e - a ≡ word 19 recs r 5 = omega arith in
+      let d : e - a ≡ recordWord recs r 5 = omega arith in
       let s : Same (limitsAt recs r p t) (recordAt f recs hs ls r) = record { regs = refl; constants = refl; symbols = refl; children = refl } in
       rw (first-assoc, d, ea, eh, ehn, el, eln, bare-same (limitsAt recs r p t) (recordAt f recs hs ls r) s)
 
 -- 15, at the record i with p trees to go
 abbrev rlenAt : List ℕ → ℕ → ℕ
-rlenAt recs r = word 19 recs r 3
+rlenAt recs r = recordWord recs r 3
 
 pub record Laid (recs : List ℕ) (n i p : ℕ) : Type 0 where
   pub inside : i ≤ n

@@ -4,9 +4,9 @@ use Prim.Native.Nat.{ℕ, _+_, _*_, _≤_, _<_}
 use mathlib.Core.Path.{_≡_}
 use mathlib.Core.List.{List}
 use lib.ListN.{length, take, drop}
-use Rattle.format.specs.Rows.{LineRow}
+use Rattle.format.specs.Rows.{LineRow, recordWidth}
 use Rattle.format.specs.Line.{rowsFrom, lineRowAt}
-use Rattle.format.specs.Lookup.{word}
+use Rattle.format.specs.Lookup.{word, recordWord}
 use Rattle.format.specs.Pattern.{Record, Pattern}
 use Rattle.format.specs.Exam.{examinePattern}
 
@@ -23,19 +23,19 @@ entries ls i n = rowsFrom (lineRowAt ls) i n
 
 -- the instruction bytes of record row r
 abbrev pub codeAt : List ℕ → List ℕ → ℕ → List ℕ
-codeAt f recs r = take (word 19 recs r 5) (drop (word 19 recs r 6) f)
+codeAt f recs r = take (recordWord recs r 5) (drop (recordWord recs r 6) f)
 
 -- record row r
 abbrev pub recordAt : List ℕ → List ℕ → List ℕ → List ℕ → ℕ → Record
 recordAt f recs hs ls r =
     record {
-      nregs = word 19 recs r 2;
-      rlen = word 19 recs r 3;
-      npool = word 19 recs r 10;
-      nsyms = word 19 recs r 12;
+      nregs = recordWord recs r 2;
+      rlen = recordWord recs r 3;
+      npool = recordWord recs r 10;
+      nsyms = recordWord recs r 12;
       code = codeAt f recs r;
-      handlers = targets hs (word 19 recs r 7) (word 19 recs r 8);
-      lines = entries ls (word 19 recs r 17) (word 19 recs r 18);
+      handlers = targets hs (recordWord recs r 7) (recordWord recs r 8);
+      lines = entries ls (recordWord recs r 17) (recordWord recs r 18);
     }
 
 -- the first n records
@@ -43,19 +43,19 @@ abbrev pub patternAt : List ℕ → List ℕ → List ℕ → List ℕ → ℕ �
 patternAt f recs hs ls n = rowsFrom (recordAt f recs hs ls) 0 n
 
 abbrev pub rlensAt : List ℕ → ℕ → List ℕ
-rlensAt recs n = rowsFrom (λ (r : ℕ). word 19 recs r 3) 0 n
+rlensAt recs n = rowsFrom (λ (r : ℕ). recordWord recs r 3) 0 n
 
 -- What a load gives of a record row: what it names lies inside the file and the tables.
 pub record RowFits (f recs hs ls : List ℕ) (r : ℕ) : Type 0 where
-  pub inside : r * 19 + 19 ≤ length recs
-  pub bytes : word 19 recs r 6 + word 19 recs r 5 ≤ length f
-  pub handling : (word 19 recs r 7 + word 19 recs r 8) * 4 ≤ length hs
-  pub lined : (word 19 recs r 17 + word 19 recs r 18) * 2 ≤ length ls
+  pub inside : r * recordWidth + recordWidth ≤ length recs
+  pub bytes : recordWord recs r 6 + recordWord recs r 5 ≤ length f
+  pub handling : (recordWord recs r 7 + recordWord recs r 8) * 4 ≤ length hs
+  pub lined : (recordWord recs r 17 + recordWord recs r 18) * 2 ≤ length ls
 
 -- and of the tables
 pub record Fits (f recs hs ls : List ℕ) (n : ℕ) : Type 0 where
   pub few : n ≤ 1024
-  pub held : n * 19 ≤ length recs
+  pub held : n * recordWidth ≤ length recs
   pub small : length f ≤ 65536
   pub each : (r : ℕ) → r < n → RowFits f recs hs ls r
 

@@ -1,5 +1,6 @@
 // Examination of a loaded pattern: conditions 15 to 20 and 25 over the file's bytes and the lent tables.
 use flags::begins_at;
+use format::RECORD_WIDTH;
 use scan::exam_code;
 ghost use mathlib.Core.Path.{_≡_};
 ghost use Prim.Native.Nat.{_+_, _-_, _*_, _<_, _≤_};
@@ -8,6 +9,7 @@ ghost use Rattle.format.specs.Line.{rising};
 ghost use Rattle.format.specs.Tree.{whole};
 ghost use Rattle.format.specs.Bytes.{refuse};
 ghost use Rattle.format.specs.Exam.{examineRecord, examineAll, examinePattern};
+ghost use Rattle.format.specs.Rows.{recordWidth};
 ghost use Rattle.flags.specs.Flags.{Limits, Marked};
 ghost use Rattle.exam.specs.View.{targets, entries, recordAt, patternAt, rlensAt, RowFits, Fits};
 ghost use Rattle.exam.specs.Part.{exam19Of, examinePart};
@@ -36,7 +38,7 @@ fn less(x: u32, n: u32) -> u32
     x - n
 }
 
-// 19 over the `n` handlers from row `first` on.
+// RECORD_WIDTH over the `n` handlers from row `first` on.
 fn exam_19(code: &[u8], flags: &[u8], handlers: &[u32], first: usize, n: usize) -> u8
     requires { ⌜ Marked (now code) (now flags) ⌝ }
     requires { ⌜ (first + n) * 4 ≤ length (now handlers) ⌝ }
@@ -111,7 +113,7 @@ pub fn examine_record(
     requires { ⌜ length (now file) ≤ length (now flags) ⌝ }
     ensures { λ x. ⌜ x ≡ examineRecord (recordAt (now (file .entry)) (now (records .entry)) (now (handlers .entry)) (now (lines .entry)) r) ⌝ }
 {
-    let row = r * 19;
+    let row = r * RECORD_WIDTH;
     let place = word(records, row + 6);
     let end = place + word(records, row + 5);
     let nregs = records[row + 2];
@@ -143,7 +145,7 @@ pub fn examine_record(
 // 15: is the tree of the first `n` records whole?
 pub fn whole_tree(records: &[u32], n: usize) -> bool
     requires { ⌜ n ≤ 1024 ⌝ }
-    requires { ⌜ n * 19 ≤ length (now records) ⌝ }
+    requires { ⌜ n * recordWidth ≤ length (now records) ⌝ }
     ensures { λ r. ⌜ r ≡ whole (rlensAt (now (records .entry)) n) ⌝ }
 {
     let mut p: usize = 1;
@@ -152,7 +154,7 @@ pub fn whole_tree(records: &[u32], n: usize) -> bool
         if p == 0 {
             return false;
         }
-        p = p - 1 + word(records, i * 19 + 3);
+        p = p - 1 + word(records, i * RECORD_WIDTH + 3);
         i += 1;
     }
     p == 0

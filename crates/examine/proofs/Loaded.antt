@@ -6,11 +6,11 @@ use mathlib.Core.Path.{_≡_, refl}
 use mathlib.Core.List.{List}
 use lib.ListN.{length}
 use Rattle.format.specs.Bytes.{ok}
-use Rattle.format.specs.Rows.{recordWords}
+use Rattle.format.specs.Rows.{recordWidth, recordWords}
 use Rattle.format.specs.File.{Content}
-use Rattle.format.specs.Load.{Nine, recordsOf, namesOf, filesOf, start, tablesOf, wordsOf, loading}
+use Rattle.format.specs.Load.{Nine, recordsOf, tablesOf, wordsOf, loading}
 use Rattle.format.specs.Pattern.{patternOf}
-use Rattle.format.proofs.Places.{rows-length}
+use Rattle.format.proofs.Places.{records-length}
 use Rattle.layout.proofs.Inside.{loading-inside, loading-held}
 use Rattle.layout.proofs.Back.{table-length}
 use Rattle.layout.proofs.Pattern.{pattern-said, row-inside}
@@ -22,9 +22,9 @@ module _ (f : List ℕ) (m : Nine) (c : Content) where
 
   pub tables-fit : loading f m ≡ ok c → let w = wordsOf m (tablesOf c) in Fits f (w .records) (w .handlers) (w .lines) (length (recordsOf c))
   tables-fit l =
-      let n = rows-length (recordsOf c) start (namesOf c) (filesOf c) in
+      let n = records-length c in
       let room = loading-held f m c l in
-      let words = table-length recordWords 19 (λ _. refl) (omega arith) (m .records) (tablesOf c .records) (room .records) in
+      let words = table-length recordWords recordWidth (λ _. refl) (omega arith) (m .records) (tablesOf c .records) (room .records) in
       record {
         few = omega (arith, n, room .few);
         held = omega (arith, n, room .records, words);

@@ -10,11 +10,11 @@ use lib.ListN.{length}
 use borrow.Author.Tests.{le-leb, ne-eqb}
 use Rattle.format.specs.Bytes.{Answer, ok, refused, bind}
 use Rattle.format.specs.File.{Content, nothing}
-use Rattle.format.specs.Load.{Nine, recordsOf, namesOf, filesOf, start, tablesOf, counts, fits, Words, wordsOf, loading, laid, load}
+use Rattle.format.specs.Load.{Nine, recordsOf, tablesOf, counts, fits, Words, wordsOf, loading, laid, load}
 use Rattle.format.specs.Pattern.{patternOf}
 use Rattle.format.specs.Exam.{examinePattern, passing, examining}
 use Rattle.format.proofs.Table.{both}
-use Rattle.format.proofs.Places.{rows-length}
+use Rattle.format.proofs.Places.{records-length}
 use Rattle.format.proofs.Answers.{ok-refused}
 use Rattle.layout.proofs.Inside.{loading-reading}
 use Rattle.exam.specs.View.{patternAt, Fits}
@@ -45,7 +45,7 @@ module _ (f : List ℕ) (m : Nine) (w : Words) (u : Used) where
     pub count-is : u .records ≡ length (recordsOf (g .content))
     count-is =
         let c = g .content in
-        ap (λ n. n .rows .records) (g .counted) ∙ rows-length (recordsOf c) start (namesOf c) (filesOf c)
+        ap (λ n. n .rows .records) (g .counted) ∙ records-length c
 
     pub fits-given : Fits f (w .records) (w .handlers) (w .lines) (u .records)
     fits-given = rw (g .tables, count-is) (tables-fit f m (g .content) (g .loads))
@@ -92,6 +92,6 @@ examining-is f m = go (loading f m) refl
     go (ok c) q =
         let t = loading-reading f m c q .2 in
         let limit = leb→le (length (tablesOf c .records)) 1024 (search both depth 12) in
-        let few : length (recordsOf c) ≤ 1024 = omega (arith, limit, rows-length (recordsOf c) start (namesOf c) (filesOf c)) in
+        let few : length (recordsOf c) ≤ 1024 = omega (arith, limit, records-length c) in
         rw (q, le-leb (length (recordsOf c)) 1024 few)
     go (refused n) q = rw q

@@ -10,3 +10,4 @@ pub mod Prefix
 pub mod RowsFrom
 pub mod Places
 pub mod Walk
+pub mod Nodes

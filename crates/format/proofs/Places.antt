@@ -8,10 +8,12 @@ use mathlib.Core.Path.{_≡_, refl, sym, ap, _∙_}
 use mathlib.Core.List.{List, [], _∷_, _++_, append-assoc, append-nil}
 use lib.ListN.{length, getD, take, drop, set, replicate, length-append, length-drop, length-set, List·getD-append}
 use lib.Seq.{take-all, sets, set-append-left, getD-append-add, drop-nil, drop-at}
-use Rattle.format.specs.Rows.{range, recordWords, NameRow, flat, tableOf}
+use Rattle.format.specs.Rows.{range, recordWidth, recordWords, NameRow, flat, tableOf}
 use Rattle.format.specs.Irep.{Rec}
 use Rattle.format.specs.Debug.{File}
-use Rattle.format.specs.Load.{joined, gathered, mapOfFiles, Before, past, recordRow, recordRows, fileRows}
+use Rattle.format.specs.Tree.{Node, alone}
+use Rattle.format.specs.File.{Content}
+use Rattle.format.specs.Load.{joined, gathered, mapOfFiles, Before, start, past, recordsOf, namesOf, filesOf, nodesOf, recordRow, recordRows, fileRows, tablesOf}
 
 pub part-is : (f : List ℕ) (at : ℕ) → take (length f - at) (drop at f) ≡ drop at f
 part-is f at = take-all (length f - at) (drop at f) (le-of-eq (length-drop at f))
@@ -90,20 +92,23 @@ abbrev pub pastAll : Before → List Rec → List (List NameRow) → List (List 
 pastAll b [] nss fss = b
 pastAll b (q ∷ qs) nss fss = pastAll (past b q (getD nss 0 []) (getD fss 0 [])) qs (drop 1 nss) (drop 1 fss)
 
--- the rows of records, parted
+-- the rows of records, parted; their nodes are put in once all are known
 pub rows-split : (qs rs : List Rec) (b : Before) (nss : List (List NameRow)) (fss : List (List File))
     → let k = length qs in
-    recordRows b (qs ++ rs) nss fss
-    ≡ recordRows b qs (upTo k nss) (upTo k fss) ++ recordRows (pastAll b qs (upTo k nss) (upTo k fss)) rs (drop k nss) (drop k fss)
+    recordRows b (qs ++ rs) nss fss []
+    ≡ recordRows b qs (upTo k nss) (upTo k fss) [] ++ recordRows (pastAll b qs (upTo k nss) (upTo k fss)) rs (drop k nss) (drop k fss) []
 rows-split [] rs b nss fss = refl
 rows-split (q ∷ qs) rs b nss fss =
     rw (drop-suc (length qs) nss, drop-suc (length qs) fss)
-    (ap (λ l. recordRow b q (getD nss 0 []) (getD fss 0 []) ∷ l) (rows-split qs rs (past b q (getD nss 0 []) (getD fss 0 [])) (drop 1 nss) (drop 1 fss)))
+    (ap (λ l. recordRow b q (getD nss 0 []) (getD fss 0 []) alone ∷ l) (rows-split qs rs (past b q (getD nss 0 []) (getD fss 0 [])) (drop 1 nss) (drop 1 fss)))
 
 -- a row for each record, whatever the walks read
-pub rows-length : (rs : List Rec) (b : Before) (nss : List (List NameRow)) (fss : List (List File)) → length (recordRows b rs nss fss) ≡ length rs
-rows-length [] b nss fss = refl
-rows-length (r ∷ rs) b nss fss = ap suc (rows-length rs (past b r (getD nss 0 []) (getD fss 0 [])) (drop 1 nss) (drop 1 fss))
+pub rows-length : (rs : List Rec) (b : Before) (nss : List (List NameRow)) (fss : List (List File)) (vs : List Node) → length (recordRows b rs nss fss vs) ≡ length rs
+rows-length [] b nss fss vs = refl
+rows-length (r ∷ rs) b nss fss vs = ap suc (rows-length rs (past b r (getD nss 0 []) (getD fss 0 [])) (drop 1 nss) (drop 1 fss) (drop 1 vs))
+
+pub records-length : (c : Content) → length (tablesOf c .records) ≡ length (recordsOf c)
+records-length c = rows-length (recordsOf c) start (namesOf c) (filesOf c) (nodesOf c)
 
 -- and one for each debug file
 pub fileRows-length : (n : ℕ) (fs : List File) → length (fileRows n fs) ≡ length fs
@@ -117,15 +122,15 @@ named n b = record { handlers = b .handlers; pool = b .pool; symbols = b .symbol
 abbrev filed : ℕ → ℕ → Before → Before
 filed n k b = record { handlers = b .handlers; pool = b .pool; symbols = b .symbols; names = b .names; files = n; lines = k }
 
-rows-unnamed : (rs : List Rec) (b : Before) (n : ℕ) (fss : List (List File)) → recordRows (named n b) rs [] fss ≡ recordRows b rs [] fss
+rows-unnamed : (rs : List Rec) (b : Before) (n : ℕ) (fss : List (List File)) → recordRows (named n b) rs [] fss [] ≡ recordRows b rs [] fss []
 rows-unnamed [] b n fss = refl
 rows-unnamed (r ∷ rs) b n fss =
-    ap (λ l. recordRow b r [] (getD fss 0 []) ∷ l) (rows-unnamed rs (past b r [] (getD fss 0 [])) (n + 0) (drop 1 fss))
+    ap (λ l. recordRow b r [] (getD fss 0 []) alone ∷ l) (rows-unnamed rs (past b r [] (getD fss 0 [])) (n + 0) (drop 1 fss))
 
-rows-unfiled : (rs : List Rec) (b : Before) (n k : ℕ) (nss : List (List NameRow)) → recordRows (filed n k b) rs nss [] ≡ recordRows b rs nss []
+rows-unfiled : (rs : List Rec) (b : Before) (n k : ℕ) (nss : List (List NameRow)) → recordRows (filed n k b) rs nss [] [] ≡ recordRows b rs nss [] []
 rows-unfiled [] b n k nss = refl
 rows-unfiled (r ∷ rs) b n k nss =
-    ap (λ l. recordRow b r (getD nss 0 []) [] ∷ l) (rows-unfiled rs (past b r (getD nss 0 []) []) (n + 0) (k + 0) (drop 1 nss))
+    ap (λ l. recordRow b r (getD nss 0 []) [] alone ∷ l) (rows-unfiled rs (past b r (getD nss 0 []) []) (n + 0) (k + 0) (drop 1 nss))
 
 -- how many names, debug files and lines stand before the records that follow qs
 pub past-names : (qs : List Rec) (b : Before) (nss : List (List NameRow)) (fss : List (List File)) → length nss ≡ length qs → pastAll b qs nss fss .names ≡ b .names + length (joined nss)
@@ -150,61 +155,63 @@ past-files (q ∷ qs) b nss (f ∷ fss) e =
 -- in the table of the records qs, r and rs: row length qs
 module _ (m : ℕ) (b : Before) (qs : List Rec) (r : Rec) (rs : List Rec) where
   -- its word i
-  pub record-word : (nss : List (List NameRow)) (fss : List (List File)) (i : ℕ) → i < 19
+  pub record-word : (nss : List (List NameRow)) (fss : List (List File)) (i : ℕ) → i < recordWidth
       → let k = length qs in
-      getD (tableOf recordWords m (recordRows b (qs ++ r ∷ rs) nss fss)) (k * 19 + i) 0
-      ≡ getD (recordWords (recordRow (pastAll b qs (upTo k nss) (upTo k fss)) r (getD (drop k nss) 0 []) (getD (drop k fss) 0 []))) i 0
+      getD (tableOf recordWords m (recordRows b (qs ++ r ∷ rs) nss fss [])) (k * recordWidth + i) 0
+      ≡ getD (recordWords (recordRow (pastAll b qs (upTo k nss) (upTo k fss)) r (getD (drop k nss) 0 []) (getD (drop k fss) 0 []) alone)) i 0
   record-word nss fss i h =
       let k = length qs in
       rw (rows-split qs (r ∷ rs) b nss fss)
-      (word-at recordWords 19 (λ _. refl) m (recordRows b qs (upTo k nss) (upTo k fss)) _ _ k i (rows-length qs b (upTo k nss) (upTo k fss)) h)
+      (word-at recordWords recordWidth (λ _. refl) m (recordRows b qs (upTo k nss) (upTo k fss) []) _ _ k i (rows-length qs b (upTo k nss) (upTo k fss) []) h)
 
   -- the rows where qs have the names nss and the others the names x; and the same for debug files
   named-split : (nss x : List (List NameRow)) (fss : List (List File)) → length nss ≡ length qs
       → let k = length qs in
-      recordRows b (qs ++ r ∷ rs) (nss ++ x) fss ≡ recordRows b qs nss (upTo k fss) ++ recordRows (pastAll b qs nss (upTo k fss)) (r ∷ rs) x (drop k fss)
+      recordRows b (qs ++ r ∷ rs) (nss ++ x) fss [] ≡ recordRows b qs nss (upTo k fss) [] ++ recordRows (pastAll b qs nss (upTo k fss)) (r ∷ rs) x (drop k fss) []
   named-split nss x fss e = rw (rows-split qs (r ∷ rs) b (nss ++ x) fss, up-to nss x (length qs) e, drop-at nss x (length qs) e)
 
   filed-split : (nss : List (List NameRow)) (fss x : List (List File)) → length fss ≡ length qs
       → let k = length qs in
-      recordRows b (qs ++ r ∷ rs) nss (fss ++ x) ≡ recordRows b qs (upTo k nss) fss ++ recordRows (pastAll b qs (upTo k nss) fss) (r ∷ rs) (drop k nss) x
+      recordRows b (qs ++ r ∷ rs) nss (fss ++ x) [] ≡ recordRows b qs (upTo k nss) fss [] ++ recordRows (pastAll b qs (upTo k nss) fss) (r ∷ rs) (drop k nss) x []
   filed-split nss fss x e = rw (rows-split qs (r ∷ rs) b nss (fss ++ x), up-to fss x (length qs) e, drop-at fss x (length qs) e)
 
   -- its words 13 and 14 once its names are known
   pub names-put : (nss : List (List NameRow)) (ns : List NameRow) (fss : List (List File)) → length nss ≡ length qs
-      → let row = length qs * 19 in
+      → let row = length qs * recordWidth in
       let names = range (b .names + length (joined nss)) (length ns) in
-      set (set (tableOf recordWords m (recordRows b (qs ++ r ∷ rs) nss fss)) (row + 13) (names .first)) (row + 14) (names .number)
-      ≡ tableOf recordWords m (recordRows b (qs ++ r ∷ rs) (nss ++ ns ∷ []) fss)
+      set (set (tableOf recordWords m (recordRows b (qs ++ r ∷ rs) nss fss [])) (row + 13) (names .first)) (row + 14) (names .number)
+      ≡ tableOf recordWords m (recordRows b (qs ++ r ∷ rs) (nss ++ ns ∷ []) fss [])
   names-put nss ns fss e =
       let k = length qs in
       let c = pastAll b qs nss (upTo k fss) in
       let fs = getD (drop k fss) 0 [] in
       let names = range (b .names + length (joined nss)) (length ns) in
-      let next : k * 19 + 14 ≡ suc (k * 19 + 13) = omega arith in
+      let next : k * recordWidth + 14 ≡ suc (k * recordWidth + 13) = omega arith in
       let rest = rows-unnamed rs (past c r [] fs) (c .names + length ns) (drop 1 (drop k fss)) in
       rw (rw append-nil at (named-split nss [] fss e), named-split nss (ns ∷ []) fss e, rest, next)
-      (sets-at recordWords 19 (λ _. refl) m (recordRows b qs nss (upTo k fss)) (recordRow c r [] fs) (recordRow c r ns fs) (recordRows (past c r [] fs) rs [] (drop 1 (drop k fss))) k 13
-      (names .first ∷ names .number ∷ []) (rows-length qs b nss (upTo k fss)) (omega arith) (rw (past-names qs b nss (upTo k fss) e)))
+      (sets-at recordWords recordWidth (λ _. refl) m (recordRows b qs nss (upTo k fss) []) (recordRow c r [] fs alone) (recordRow c r ns fs alone)
+      (recordRows (past c r [] fs) rs [] (drop 1 (drop k fss)) []) k 13
+      (names .first ∷ names .number ∷ []) (rows-length qs b nss (upTo k fss) []) (omega arith) (rw (past-names qs b nss (upTo k fss) e)))
 
   -- its words 15 to 18 once its debug files are known
   pub files-put : (nss : List (List NameRow)) (fss : List (List File)) (fs : List File) → length fss ≡ length qs
-      → let row = length qs * 19 in
+      → let row = length qs * recordWidth in
       let files = range (b .files + length (joined fss)) (length fs) in
       let lines = range (b .lines + length (mapOfFiles (joined fss))) (length (mapOfFiles fs)) in
-      set (set (set (set (tableOf recordWords m (recordRows b (qs ++ r ∷ rs) nss fss)) (row + 15) (files .first)) (row + 16) (files .number)) (row + 17) (lines .first)) (row + 18) (lines .number)
-      ≡ tableOf recordWords m (recordRows b (qs ++ r ∷ rs) nss (fss ++ fs ∷ []))
+      set (set (set (set (tableOf recordWords m (recordRows b (qs ++ r ∷ rs) nss fss [])) (row + 15) (files .first)) (row + 16) (files .number)) (row + 17) (lines .first)) (row + 18) (lines .number)
+      ≡ tableOf recordWords m (recordRows b (qs ++ r ∷ rs) nss (fss ++ fs ∷ []) [])
   files-put nss fss fs e =
       let k = length qs in
       let c = pastAll b qs (upTo k nss) fss in
       let ns = getD (drop k nss) 0 [] in
       let files = range (b .files + length (joined fss)) (length fs) in
       let lines = range (b .lines + length (mapOfFiles (joined fss))) (length (mapOfFiles fs)) in
-      let second : k * 19 + 16 ≡ suc (k * 19 + 15) = omega arith in
-      let third : k * 19 + 17 ≡ suc (suc (k * 19 + 15)) = omega arith in
-      let fourth : k * 19 + 18 ≡ suc (suc (suc (k * 19 + 15))) = omega arith in
+      let second : k * recordWidth + 16 ≡ suc (k * recordWidth + 15) = omega arith in
+      let third : k * recordWidth + 17 ≡ suc (suc (k * recordWidth + 15)) = omega arith in
+      let fourth : k * recordWidth + 18 ≡ suc (suc (suc (k * recordWidth + 15))) = omega arith in
       let rest = rows-unfiled rs (past c r ns []) (c .files + length fs) (c .lines + length (mapOfFiles fs)) (drop 1 (drop k nss)) in
       let p = past-files qs b (upTo k nss) fss e in
       rw (rw append-nil at (filed-split nss fss [] e), filed-split nss fss (fs ∷ []) e, rest, second, third, fourth)
-      (sets-at recordWords 19 (λ _. refl) m (recordRows b qs (upTo k nss) fss) (recordRow c r ns []) (recordRow c r ns fs) (recordRows (past c r ns []) rs (drop 1 (drop k nss)) []) k 15
-      (files .first ∷ files .number ∷ lines .first ∷ lines .number ∷ []) (rows-length qs b (upTo k nss) fss) (omega arith) (rw (p .0, p .1)))
+      (sets-at recordWords recordWidth (λ _. refl) m (recordRows b qs (upTo k nss) fss []) (recordRow c r ns [] alone) (recordRow c r ns fs alone)
+      (recordRows (past c r ns []) rs (drop 1 (drop k nss)) [] []) k 15
+      (files .first ∷ files .number ∷ lines .first ∷ lines .number ∷ []) (rows-length qs b (upTo k nss) fss []) (omega arith) (rw (p .0, p .1)))

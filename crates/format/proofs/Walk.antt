@@ -6,19 +6,15 @@ use native.Mathlib.Omega.{arith}
 use mathlib.Core.Path.{_≡_, refl, ap}
 use mathlib.Core.Bool.{false}
 use mathlib.Core.Logic.{_↔_}
-use mathlib.Core.List.{List, [], _∷_, map}
+use mathlib.Core.List.{List, [], _∷_}
 use lib.Dec.{T}
 use lib.ListN.{length, take}
 use Rattle.format.specs.Bytes.{Answer, ok, refused}
 use Rattle.format.specs.Reading.{Read, Part, andThen}
 use Rattle.format.specs.Irep.{Rec}
-use Rattle.format.specs.Walk.{walk, visits}
+use Rattle.format.specs.Walk.{rlens, walk, visits}
 use Rattle.format.specs.Tree.{total, layout, span}
 use Rattle.format.proofs.Answers.{ok-refused}
-
--- the children's numbers, of each record
-abbrev pub rlens : List Rec → List ℕ
-rlens rs = map (λ (r : Rec). r .head .rlen) rs
 
 -- a record's children before the visits that were pending, or behind them
 children-first : (r : Rec) (p : ℕ) → r .head .rlen + p ≡ p + r .head .rlen

@@ -1,5 +1,6 @@
 -- Load: a file's reading and lent tables of given sizes. "14: a needed row is beyond its lent table or the 1,024 records": what was read is what
--- was needed, so 14 is met where that does not fit; else the load ends as the reading does. Paper 02, m): its answer carries the visits, too.
+-- was needed, so 14 is met where that does not fit; else the load ends as the reading does. Paper 02: a record's row has its depth and
+-- parent, a); the answer carries the visits, m).
 -- Assumes nothing.
 use Prim.Native.Nat.{ℕ, _+_, _/_}
 use mathlib.Core.Bool.{Bool, cond, _&&_}
@@ -10,9 +11,10 @@ use lib.ListN.{length, getD, drop}
 use Rattle.format.specs.Bytes.{Answer, ok, refused, onAnswer}
 use Rattle.format.specs.Reading.{Part}
 use Rattle.format.specs.Rows.{range, RecordRow, HandlerRow, PoolRow, TextRow, NameRow, FileRow, LineRow, recordWords, handlerWords}
-use Rattle.format.specs.Rows.{poolWords, textWords, nameWords, fileWords, lineWords, tableOf}
+use Rattle.format.specs.Rows.{poolWords, textWords, nameWords, fileWords, lineWords, tableOf, recordWidth}
 use Rattle.format.specs.Irep.{Rec}
-use Rattle.format.specs.Walk.{visits}
+use Rattle.format.specs.Tree.{Node, alone, nodes}
+use Rattle.format.specs.Walk.{rlens, visits}
 use Rattle.format.specs.Debug.{File}
 use Rattle.format.specs.File.{Content, nothing, fileReading}
 
@@ -45,6 +47,10 @@ fileNamesOf c = elim (c .dbg) [ none ↦ [] | some d ↦ d .fileNames ]
 abbrev pub filesOf : Content → List (List File)
 filesOf c = elim (c .dbg) [ none ↦ [] | some d ↦ d .files ]
 
+-- Paper 02, a): each record's depth and parent, "by the walk over the rlens, with or without LVAR"
+abbrev pub nodesOf : Content → List Node
+nodesOf c = nodes (rlens (recordsOf c))
+
 -- "The record's map joins its files' maps."
 abbrev pub mapOfFiles : List File → List LineRow
 mapOfFiles fs = gathered (λ f. f .lines) fs
@@ -72,8 +78,8 @@ past b r ns fs =
       lines = b .lines + length (mapOfFiles fs);
     }
 
-abbrev pub recordRow : Before → Rec → List NameRow → List File → RecordRow
-recordRow b r ns fs =
+abbrev pub recordRow : Before → Rec → List NameRow → List File → Node → RecordRow
+recordRow b r ns fs v =
     record {
       size = r .head .size;
       nlocals = r .head .nlocals;
@@ -88,13 +94,16 @@ recordRow b r ns fs =
       names = range (b .names) (length ns);
       files = range (b .files) (length fs);
       lines = range (b .lines) (length (mapOfFiles fs));
+      depth = v .depth;
+      parent = v .parent;
     }
 
--- a record that no walk visited has no names and no debug files
-abbrev pub recordRows : Before → List Rec → List (List NameRow) → List (List File) → List RecordRow
-recordRows b [] nss fss = []
-recordRows b (r ∷ rs) nss fss =
-    recordRow b r (getD nss 0 []) (getD fss 0 []) ∷ recordRows (past b r (getD nss 0 []) (getD fss 0 [])) rs (drop 1 nss) (drop 1 fss)
+-- a record that no walk visited has no names, no debug files and no parent
+abbrev pub recordRows : Before → List Rec → List (List NameRow) → List (List File) → List Node → List RecordRow
+recordRows b [] nss fss vs = []
+recordRows b (r ∷ rs) nss fss vs =
+    recordRow b r (getD nss 0 []) (getD fss 0 []) (getD vs 0 alone)
+    ∷ recordRows (past b r (getD nss 0 []) (getD fss 0 [])) rs (drop 1 nss) (drop 1 fss) (drop 1 vs)
 
 abbrev pub fileRows : ℕ → List File → List FileRow
 fileRows n [] = []
@@ -115,7 +124,7 @@ pub record Tables : Type 0 where
 abbrev pub tablesOf : Content → Tables
 tablesOf c =
     record {
-      records = recordRows start (recordsOf c) (namesOf c) (filesOf c);
+      records = recordRows start (recordsOf c) (namesOf c) (filesOf c) (nodesOf c);
       handlers = gathered (λ r. r .body .handlers) (recordsOf c);
       pool = gathered (λ r. r .body .pool) (recordsOf c);
       symbols = gathered (λ r. r .body .symbols) (recordsOf c);
@@ -169,7 +178,7 @@ counts c = record { rows = used (tablesOf c); visits = visitsOf c }
 unfoldable pub fits : ℕ → Nine → Nine → Bool
 fits limit m u =
     leb (u .records) limit
-    && leb (u .records) (m .records / 19)
+    && leb (u .records) (m .records / recordWidth)
     && leb (u .handlers) (m .handlers / 4)
     && leb (u .pool) (m .pool / 3)
     && leb (u .symbols) (m .symbols / 2)

@@ -10,33 +10,39 @@ use lib.Ieee.{Float}
 use lib.IntN.{ℤ}
 use lib.ListN.{length, getD}
 use Rattle.format.specs.Bytes.{Answer, ok, refused, bind, int32At, int64At, float64At}
-use Rattle.format.specs.Rows.{Range, RecordRow, HandlerRow, PoolRow, TextRow, textRow, FileRow}
+use Rattle.format.specs.Rows.{Range, RecordRow, HandlerRow, PoolRow, TextRow, textRow, FileRow, recordWidth}
 use Rattle.format.specs.Line.{lineAt, rowsFrom, lineRowAt}
 
 -- word k of row i of a table with w words to a row
 abbrev pub word : ℕ → List ℕ → ℕ → ℕ → ℕ
 word w t i k = getD t (i * w + k) 0
 
+-- word k of record r's row
+abbrev pub recordWord : List ℕ → ℕ → ℕ → ℕ
+recordWord t r k = word recordWidth t r k
+
 -- the rows that words say
 abbrev pub rangeAt : List ℕ → ℕ → ℕ → Range
-rangeAt t r k = record { first = word 19 t r k; number = word 19 t r (k + 1) }
+rangeAt t r k = record { first = recordWord t r k; number = recordWord t r (k + 1) }
 
 abbrev pub recordRowAt : List ℕ → ℕ → RecordRow
 recordRowAt t r =
     record {
-      size = word 19 t r 0;
-      nlocals = word 19 t r 1;
-      nregs = word 19 t r 2;
-      rlen = word 19 t r 3;
-      clen = word 19 t r 4;
-      ilen = word 19 t r 5;
-      place = word 19 t r 6;
+      size = recordWord t r 0;
+      nlocals = recordWord t r 1;
+      nregs = recordWord t r 2;
+      rlen = recordWord t r 3;
+      clen = recordWord t r 4;
+      ilen = recordWord t r 5;
+      place = recordWord t r 6;
       handlers = rangeAt t r 7;
       pool = rangeAt t r 9;
       symbols = rangeAt t r 11;
       names = rangeAt t r 13;
       files = rangeAt t r 15;
       lines = rangeAt t r 17;
+      depth = recordWord t r 19;
+      parent = recordWord t r 20;
     }
 
 abbrev pub handlerRowAt : List ℕ → ℕ → HandlerRow
@@ -57,7 +63,7 @@ hasRow w t i = ltb i (length t / w)
 
 -- "22: a lookup's record or index has no row"; "A record row of size 0 is no row."
 unfoldable pub recordIn : List ℕ → ℕ → Answer RecordRow
-recordIn t r = cond (hasRow 19 t r && ltb 0 (word 19 t r 0)) (ok (recordRowAt t r)) (refused 22)
+recordIn t r = cond (hasRow recordWidth t r && ltb 0 (recordWord t r 0)) (ok (recordRowAt t r)) (refused 22)
 
 -- which row of a table of rows of w words index i of a range is
 unfoldable pub rowIn : ℕ → List ℕ → Range → ℕ → Answer ℕ

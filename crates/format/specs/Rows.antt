@@ -15,7 +15,7 @@ abbrev pub range : ℕ → ℕ → Range
 range row n = record { first = cond (eqb n 0) 0 row; number = n }
 
 -- "Record: its six header fields, instruction place, first row and number of its handlers, pool entries, symbols, names, debug files
--- and lines."
+-- and lines." Paper 02, a): "The record row gains its depth and its parent's index".
 pub record RecordRow : Type 0 where
   pub size : ℕ
   pub nlocals : ℕ
@@ -30,6 +30,8 @@ pub record RecordRow : Type 0 where
   pub names : Range
   pub files : Range
   pub lines : Range
+  pub depth : ℕ
+  pub parent : ℕ
 
 -- "Handler: four fields."
 pub record HandlerRow : Type 0 where
@@ -73,6 +75,10 @@ pub record LineRow : Type 0 where
 abbrev pub lineRow : ℕ → ℕ → LineRow
 lineRow p l = record { pos = p; line = l }
 
+-- how many words a record's row has
+abbrev pub recordWidth : ℕ
+recordWidth = 21
+
 -- the words of each, in that order
 abbrev pub recordWords : RecordRow → List ℕ
 recordWords r =
@@ -83,6 +89,7 @@ recordWords r =
     ∷ r .names .first ∷ r .names .number
     ∷ r .files .first ∷ r .files .number
     ∷ r .lines .first ∷ r .lines .number
+    ∷ r .depth ∷ r .parent
     ∷ []
 
 abbrev pub handlerWords : HandlerRow → List ℕ

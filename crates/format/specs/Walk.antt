@@ -3,10 +3,14 @@
 -- Assumes nothing.
 use Prim.Native.Nat.{ℕ, zero, suc, _+_}
 use mathlib.Core.Bool.{Bool, cond}
-use mathlib.Core.List.{List, [], _∷_}
+use mathlib.Core.List.{List, [], _∷_, map}
 use Rattle.format.specs.Bytes.{ok}
 use Rattle.format.specs.Reading.{Read, reading, Part, add, andThen}
 use Rattle.format.specs.Irep.{Rec}
+
+-- how many children each record has
+abbrev pub rlens : List Rec → List ℕ
+rlens rs = map (λ (r : Rec). r .head .rlen) rs
 
 -- The records left are rs, and `pending` visits are still to be made: a record's children come before the visits that were pending. Where
 -- what is read is spent, a visit reads nothing. A record's rows are a list of their own, so the first list is record 0's, and so on.

@@ -12,8 +12,9 @@ use lib.ListN.{length, length-append}
 use borrow.Author.Tests.{leb-true, leb-false}
 use Rattle.format.specs.Bytes.{ok, refused, bind, has, u32At}
 use Rattle.format.specs.Reading.{Read, reading, Part, part, andThen, inTurn}
-use Rattle.format.specs.Rows.{RecordRow, HandlerRow, PoolRow, TextRow, recordWords, handlerWords, poolWords, textWords, tableOf}
+use Rattle.format.specs.Rows.{RecordRow, HandlerRow, PoolRow, TextRow, recordWidth, recordWords, handlerWords, poolWords, textWords, tableOf}
 use Rattle.format.specs.Irep.{handler, poolEntry, symbolText, counted, headAt, Body, body, Rec, bodyAt, recordAt, recordsFrom, irepSection}
+use Rattle.format.specs.Tree.{alone}
 use Rattle.format.specs.Load.{Before, start, recordRow, recordRows, gathered, Nine}
 use Rattle.rows.specs.declared.Rows.the-variants as rows
 use Rattle.rows.specs.declared.Row.the-variants.{Pool, Symbol}
@@ -42,7 +43,7 @@ beforeOf b = record { handlers = length (b .handlers); pool = length (b .pool); 
 -- the limit and the tables have room for them
 pub record Room (limit : ℕ) (m : Nine) (b : Held) : Type 0 where
   pub within : length (b .records) ≤ limit
-  pub records : length (b .records) ≤ rowCount (m .records) 19
+  pub records : length (b .records) ≤ rowCount (m .records) recordWidth
   pub handlers : length (b .handlers) ≤ rowCount (m .handlers) 4
   pub pool : length (b .pool) ≤ rowCount (m .pool) 3
   pub symbols : length (b .symbols) ≤ rowCount (m .symbols) 2
@@ -57,7 +58,7 @@ abbrev grow : Held → Body → Held
 grow b x = record { records = b .records; handlers = b .handlers ++ x .handlers; pool = b .pool ++ x .pool; symbols = b .symbols ++ x .symbols }
 
 abbrev rowIn : Held → Rec → RecordRow
-rowIn b r = recordRow (beforeOf b) r [] []
+rowIn b r = recordRow (beforeOf b) r [] [] alone
 
 abbrev put : Held → Rec → Held
 put b r =
@@ -157,15 +158,15 @@ module _ (limit : ℕ) (m : Nine) where
     X = bodyAt f base (headAt f at .clen) (at + 16 + headAt f at .ilen)
 
     abbrev records-length : length (lentOf m b .records) ≡ m .records
-    records-length = length-table recordWords 19 (λ _. refl) (omega arith) (m .records) (b .records) (rm .records)
+    records-length = length-table recordWords recordWidth (λ _. refl) (omega arith) (m .records) (b .records) (rm .records)
 
     -- its row is there, so far as the records go
-    module _ (low : leb limit (length (b .records)) ≡ false) (free : leb (rowCount (m .records) 19) (length (b .records)) ≡ false) where
+    module _ (low : leb limit (length (b .records)) ≡ false) (free : leb (rowCount (m .records) recordWidth) (length (b .records)) ≡ false) where
       limit′ : (r : Rec) → length (b .records ++ rowIn b r ∷ []) ≤ limit
       limit′ r = omega (arith, row-more r, leb-false limit (length (b .records)) low)
 
-      records′ : (r : Rec) → length (b .records ++ rowIn b r ∷ []) ≤ rowCount (m .records) 19
-      records′ r = omega (arith, row-more r, leb-false (rowCount (m .records) 19) (length (b .records)) free)
+      records′ : (r : Rec) → length (b .records ++ rowIn b r ∷ []) ≤ rowCount (m .records) recordWidth
+      records′ r = omega (arith, row-more r, leb-false (rowCount (m .records) recordWidth) (length (b .records)) free)
 
       abbrev the-rec : Body → Rec
       the-rec x = record { head = headAt f at; place = base + (at + 16); body = x }
@@ -182,7 +183,8 @@ module _ (limit : ℕ) (m : Nine) where
       finish-there x z =
           let next = at + headAt f at .size in
           let w = row-words f at (base + (at + 16)) b x in
-          let q = put-there recordWords 19 (λ _. refl) (omega arith) (m .records) (b .records) (rowIn b (the-rec x)) next (leb-false (rowCount (m .records) 19) (length (b .records)) free) in
+          let there = leb-false (rowCount (m .records) recordWidth) (length (b .records)) free in
+          let q = put-there recordWords recordWidth (λ _. refl) (omega arith) (m .records) (b .records) (rowIn b (the-rec x)) next there in
           rw (z, w, q)
 
       module _ (code : has f (at + 16) (headAt f at .ilen) ≡ true) where
@@ -234,17 +236,17 @@ module _ (limit : ℕ) (m : Nine) where
             symbols = rw append-nil (rm .symbols);
           }) refl)
 
-    by-rows : leb limit (length (b .records)) ≡ false → (c : Bool) → leb (rowCount (m .records) 19) (length (b .records)) ≡ c → RecordRan b Q OO
+    by-rows : leb limit (length (b .records)) ≡ false → (c : Bool) → leb (rowCount (m .records) recordWidth) (length (b .records)) ≡ c → RecordRan b Q OO
     unfolding recordOf
     by-rows low true c =
         rw (there, low, records-length, c)
-        (Ran.full (λ r. omega (arith, row-more (Q .it), leb-true (rowCount (m .records) 19) (length (b .records)) c, r .records)) refl)
+        (Ran.full (λ r. omega (arith, row-more (Q .it), leb-true (rowCount (m .records) recordWidth) (length (b .records)) c, r .records)) refl)
     by-rows low false c = by-code low c (has f (at + 16) (headAt f at .ilen)) refl
 
     by-limit : (c : Bool) → leb limit (length (b .records)) ≡ c → RecordRan b Q OO
     unfolding recordOf
     by-limit true c = rw (there, c) (Ran.full (λ r. omega (arith, row-more (Q .it), leb-true limit (length (b .records)) c, r .within)) refl)
-    by-limit false c = by-rows c (leb (rowCount (m .records) 19) (length (b .records))) refl
+    by-limit false c = by-rows c (leb (rowCount (m .records) recordWidth) (length (b .records))) refl
 
     record-ran : RecordRan b Q OO
     record-ran = by-limit (leb limit (length (b .records))) refl
@@ -301,7 +303,7 @@ module _ (limit : ℕ) (m : Nine) where
 abbrev spread : Held → List Rec → Held
 spread b rs =
     record {
-      records = b .records ++ recordRows (beforeOf b) rs [] [];
+      records = b .records ++ recordRows (beforeOf b) rs [] [] [];
       handlers = b .handlers ++ gathered (λ r. r .body .handlers) rs;
       pool = b .pool ++ gathered (λ r. r .body .pool) rs;
       symbols = b .symbols ++ gathered (λ r. r .body .symbols) rs;
@@ -315,7 +317,7 @@ put-all (r ∷ rs) b = rw (put-all rs (put b r), length-append, length-append, l
 abbrev pub held : List Rec → Held
 held rs =
     record {
-      records = recordRows start rs [] [];
+      records = recordRows start rs [] [] [];
       handlers = gathered (λ r. r .body .handlers) rs;
       pool = gathered (λ r. r .body .pool) rs;
       symbols = gathered (λ r. r .body .symbols) rs;

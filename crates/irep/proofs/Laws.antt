@@ -13,6 +13,7 @@ use borrow.Author.Tests.{le-leb, lt-leb, eqb-false}
 use Rattle.format.specs.Bytes.{has, u32At}
 use Rattle.format.specs.Headers.{irepHeader, recordHeader}
 use Rattle.format.specs.Irep.{Head, headAt}
+use Rattle.format.specs.Rows.{recordWidth}
 use Rattle.format.proofs.Answers.{either}
 use Rattle.format.proofs.Places.{part-is}
 use Rattle.headers_irep.specs.declared.SectionIrepHeaderRead.{SectionIrepHeaderRead}
@@ -75,13 +76,13 @@ module _ (at : ℕ) where
   unfolding finishOf Later
   finish-later h base records u v next w e = by-size (eqb (h .size) 0) refl
     where
-      by-row : (h .size ≡ 0 → ⊥) → eqb (h .size) 0 ≡ false → (b : Bool) → ltb (u .records) (rowCount (length records) 19) ≡ b → at < next
+      by-row : (h .size ≡ 0 → ⊥) → eqb (h .size) 0 ≡ false → (b : Bool) → ltb (u .records) (rowCount (length records) recordWidth) ≡ b → at < next
       by-row p z true b = let q = rw (z, b) at e in let n : next ≡ at + h .size = cc in omega arith
       by-row p z false b = let q = rw (z, b) at e in let z : _≡_ {A = ℕ} 0 1 = cc in omega arith
 
       by-size : (b : Bool) → eqb (h .size) 0 ≡ b → at < next
       by-size true b = let q = rw b at e in let z : _≡_ {A = ℕ} 0 1 = cc in omega arith
-      by-size false b = by-row (eqb-false (h .size) 0 b) b (ltb (u .records) (rowCount (length records) 19)) refl
+      by-size false b = by-row (eqb-false (h .size) 0 b) b (ltb (u .records) (rowCount (length records) recordWidth)) refl
 
 -- a record moves the place on
 pub record-next : (f : List ℕ) (base limit at : ℕ) (t : Lent) (u : Used) (next : ℕ) (v : Used) → recordOf f base limit at t u .ans ≡ Next next v → at < next
@@ -91,7 +92,7 @@ record-next f base limit at t u =
     let h = headAt f at in
     either P (has f at 16) _ _
     (λ _. either P (leb limit (u .records)) _ _ (λ _. refuses at 14)
-    (λ _. either P (leb (rowCount (length (t .records)) 19) (u .records)) _ _ (λ _. refuses at 14)
+    (λ _. either P (leb (rowCount (length (t .records)) recordWidth) (u .records)) _ _ (λ _. refuses at 14)
     (λ _. either P (has f (at + 16) (h .ilen)) _ _
     (λ _. after at (bodyOf f base (h .clen) (at + 16 + h .ilen) (t .handlers) (t .pool) (t .symbols) u .ans) _ _
     (λ v. finish-later at h base (t .records) u v)

@@ -6,7 +6,8 @@ use mathlib.Core.List.{List}
 use lib.Dec.{leb, eqb}
 use lib.ListN.{length}
 use Rattle.format.specs.Bytes.{has, u16At, u32At}
-use Rattle.format.specs.Rows.{RecordRow, range, recordWords}
+use Rattle.format.specs.Rows.{RecordRow, range, recordWidth, recordWords}
+use Rattle.format.specs.Tree.{alone}
 use Rattle.format.specs.Irep.{Head, headAt}
 use Rattle.headers_irep.specs.declared.IrepRecord.{IrepRecord}
 use Rattle.rows.specs.declared.Row.the-variants.{Handler, Pool, Symbol}
@@ -90,7 +91,7 @@ pub record SectionRun : Type 0 where
 abbrev pub sectionRun : Section → Lent → SectionRun
 sectionRun a t = record { ans = a; tabs = t }
 
--- A record's row; u and v are the rows used before and after its lists. Names, debug files and lines are still to come.
+-- A record's row; u and v are the rows used before and after its lists. Names, debug files, lines, depth and parent are still to come.
 abbrev pub rowIs : Head → ℕ → Used → Used → RecordRow
 rowIs h place u v =
     record {
@@ -107,6 +108,8 @@ rowIs h place u v =
       names = range 0 0;
       files = range 0 0;
       lines = range 0 0;
+      depth = alone .depth;
+      parent = alone .parent;
     }
 
 -- clen handlers, the pool, the symbols
@@ -139,7 +142,7 @@ unfoldable pub recordOf : List ℕ → ℕ → ℕ → ℕ → Lent → Used →
 recordOf f base limit at t u =
     cond (has f at 16)
     (cond (leb limit (u .records)) (run (reached.Refused 14) t)
-    (cond (leb (rowCount (length (t .records)) 19) (u .records)) (run (reached.Refused 14) t)
+    (cond (leb (rowCount (length (t .records)) recordWidth) (u .records)) (run (reached.Refused 14) t)
     (cond (has f (at + 16) (headAt f at .ilen))
     (let b = bodyOf f base (headAt f at .clen) (at + 16 + headAt f at .ilen) (t .handlers) (t .pool) (t .symbols) u in
     onContent (b .ans)

@@ -2,6 +2,8 @@
 use binfmt::be16_to_u16;
 use binfmt::be32_to_u32;
 use binfmt::rest;
+use format::NO_PARENT;
+use format::RECORD_WIDTH;
 use headers_irep::IrepRecord;
 use headers_irep::SectionIrepHeader;
 use rows::Row;
@@ -86,8 +88,8 @@ fn read_header(f: &[u8], at: usize) -> Header
 }
 
 // A record's row: its header, its instructions' place, and first row and number of its handlers, pool entries and symbols; those of its
-// names, debug files and lines are 0.
-fn record_row(h: Header, place: u32, u: Used, v: Used) -> [u32; 19]
+// names, debug files and lines are 0, and it has no parent.
+fn record_row(h: Header, place: u32, u: Used, v: Used) -> [u32; RECORD_WIDTH]
     ensures { λ r. ⌜ r ≡ recordWords (rowIs (headOf h) place u v) ⌝ }
 {
     let nh = minus(v.handlers, u.handlers);
@@ -116,6 +118,8 @@ fn record_row(h: Header, place: u32, u: Used, v: Used) -> [u32; 19]
         0,
         0,
         0,
+        0,
+        NO_PARENT,
     ]
 }
 
@@ -205,7 +209,7 @@ fn read_record(
     if limit <= u.records {
         return Reached::Refused(14);
     }
-    if row_count(records.len(), 19) <= u.records {
+    if row_count(records.len(), RECORD_WIDTH) <= u.records {
         return Reached::Refused(14);
     }
     if rest(f, at + 16) < (h.ilen as usize) {

@@ -12,16 +12,16 @@ use lib.ListN.{length, getD, List·getD-eq-default}
 use borrow.Author.Tests.{leb-true, leb-false, le-leb, lt-ltb, ne-eqb}
 use Rattle.format.specs.Bytes.{Answer, ok, refused, int32At, int64At, float64At}
 use Rattle.format.specs.Rows.{Range, RecordRow, recordWords, HandlerRow, handlerWords, PoolRow, poolWords, TextRow, textRow, textWords, NameRow}
-use Rattle.format.specs.Rows.{nameWords, FileRow, fileWords, lineWords, tableOf}
+use Rattle.format.specs.Rows.{nameWords, FileRow, fileWords, lineWords, tableOf, recordWidth}
 use Rattle.format.specs.Irep.{Rec}
 use Rattle.format.specs.Debug.{File}
 use Rattle.format.specs.File.{Content}
 use Rattle.format.specs.Load.{Nine, Words, recordsOf, stringsOf, namesOf, fileNamesOf, filesOf, mapOfFiles, fileRows, tablesOf, wordsOf, loading, load}
 use Rattle.format.specs.Line.{lineAt, rowsFrom, lineRowAt}
 use Rattle.format.specs.Lookup.{word, fileRowAt, recordRowAt, hasRow, recordIn, bytesIn, textIn, instructions, handler, Constant, text, big, int}
-use Rattle.format.specs.Lookup.{float, constantAt, constantOf, pool, symbol, nameOf, name, DebugFile, debugFileOf, debugFile, line}
+use Rattle.format.specs.Lookup.{recordWord, float, constantAt, constantOf, pool, symbol, nameOf, name, DebugFile, debugFileOf, debugFile, line}
 use Rattle.format.proofs.Pool.{IsString}
-use Rattle.format.proofs.Places.{rows-length, fileRows-length}
+use Rattle.format.proofs.Places.{records-length, fileRows-length}
 use Rattle.layout.proofs.Own.{Own, OwnFile, Owns, owns, table-row}
 use Rattle.layout.proofs.Ends.{Each}
 use Rattle.layout.proofs.Inside.{TextInside, StringInside, SymbolInside, PlainInside, NameInside, FileInside, PoolInside, Inside, loading-inside, Held, loading-held}
@@ -144,7 +144,7 @@ module _ (f : List ℕ) (m : Nine) (c : Content) (loaded : loading f m ≡ ok c)
   room = loading-held f m c loaded
 
   rows-count : length (tablesOf c .records) ≡ length (recordsOf c)
-  rows-count = rows-length (recordsOf c) _ (namesOf c) (filesOf c)
+  rows-count = records-length c
 
   module _ (i : ℕ) (d : Rec) (h : i < length (recordsOf c)) where
     row : RecordRow
@@ -160,10 +160,10 @@ module _ (f : List ℕ) (m : Nine) (c : Content) (loaded : loading f m ≡ ok c)
     record-in =
         let t = held m c .records in
         let g : i < length (tablesOf c .records) = rw rows-count h in
-        let e : word 19 t i 0 ≡ getD (recordsOf c) i d .head .size = table-row recordWords 19 (λ _. refl) (m .records) (tablesOf c .records) i 0 zeroRow g (omega arith) ∙ own .size in
-        passes (hasRow 19 t i) (ltb 0 (word 19 t i 0)) (ok (recordRowAt t i)) (refused 22)
-        (has-row recordWords 19 (λ _. refl) (omega arith) (m .records) (tablesOf c .records) (room .records) i g)
-        (lt-ltb 0 (word 19 t i 0) (rw e (every .records i d h .sized)))
+        let e : recordWord t i 0 ≡ getD (recordsOf c) i d .head .size = table-row recordWords recordWidth (λ _. refl) (m .records) (tablesOf c .records) i 0 zeroRow g (omega arith) ∙ own .size in
+        passes (hasRow recordWidth t i) (ltb 0 (recordWord t i 0)) (ok (recordRowAt t i)) (refused 22)
+        (has-row recordWords recordWidth (λ _. refl) (omega arith) (m .records) (tablesOf c .records) (room .records) i g)
+        (lt-ltb 0 (recordWord t i 0) (rw e (every .records i d h .sized)))
         ∙ ap ok (record-back (m .records) (tablesOf c .records) i zeroRow g)
 
     -- "instructions": their place and length
@@ -372,8 +372,8 @@ module _ (f : List ℕ) (m : Nine) (c : Content) (loaded : loading f m ≡ ok c)
   unfolding recordIn
   no-record i h =
       let t = held m c .records in
-      let e : word 19 t i 0 ≡ 0 = table-zero recordWords 19 (λ _. refl) (m .records) (tablesOf c .records) i 0 (rw rows-count h) in
-      fails (hasRow 19 t i) (ltb 0 (word 19 t i 0)) (ok (recordRowAt t i)) (refused 22) (rw e)
+      let e : recordWord t i 0 ≡ 0 = table-zero recordWords recordWidth (λ _. refl) (m .records) (tablesOf c .records) i 0 (rw rows-count h) in
+      fails (hasRow recordWidth t i) (ltb 0 (recordWord t i 0)) (ok (recordRowAt t i)) (refused 22) (rw e)
 
   -- a record that is not there: every lookup of it meets 22
   pub beyond : (i : ℕ) → length (recordsOf c) ≤ i → NoRecord f (held m c) i

@@ -19,6 +19,7 @@ use Rattle.format.specs.Reading.{Part, part}
 use Rattle.format.specs.File.{Content, nothing, sectionAt, sections, identIsRite, statedSize, majorIs04, fileRefusal, fileReading}
 use Rattle.format.specs.Load.{Nine, tablesOf, used, fits, ending, loading, load}
 use Rattle.format.specs.Exam.{FilePasses}
+use Rattle.format.specs.Rows.{recordWidth}
 use Rattle.format.proofs.Answers.{refused-same, Refuses, answered, tested}
 use Rattle.format.proofs.File.{accepted}
 use Rattle.layout.proofs.Ends.{reading-accepted}
@@ -136,7 +137,7 @@ module _ (f : List ℕ) where
     unfolding fits
     fits-nothing =
         rw (
-          leb·zero (m .records / 19),
+          leb·zero (m .records / recordWidth),
           leb·zero (m .handlers / 4),
           leb·zero (m .pool / 3),
           leb·zero (m .symbols / 2),

@@ -6,6 +6,7 @@ pub mod Audit
 pub mod Exact
 pub mod Demand3
 pub mod Visits
+pub mod Parents
 pub mod Numbers
 pub mod Tests
 pub mod Endings

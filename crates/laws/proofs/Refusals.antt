@@ -12,7 +12,7 @@ use lib.Dec.{leb, ltb, eqb}
 use lib.ListN.{length, replicate}
 use borrow.Author.Tests.{ne-eqb}
 use Rattle.format.specs.Bytes.{Answer, ok, refused, bind, has, byte}
-use Rattle.format.specs.Rows.{Range, RecordRow, PoolRow, TextRow, textRow}
+use Rattle.format.specs.Rows.{Range, RecordRow, PoolRow, TextRow, textRow, recordWidth}
 use Rattle.format.specs.File.{Content, nothing, fileReading}
 use Rattle.format.specs.Load.{Nine, Words, tablesOf, used, fits, ending, loading, wordsOf, laid, load, recordsOf}
 use Rattle.format.specs.Insn.{kind, known, row, width, fetchAs, fetch}
@@ -152,7 +152,7 @@ Only22 x = Refuses (λ e. e ≡ 22) x
 
 record-22 : (t : List ℕ) (r : ℕ) → Only22 (look.recordIn t r)
 unfolding look.recordIn
-record-22 t r = tested _ _ (look.hasRow 19 t r && ltb 0 (look.word 19 t r 0)) _ 22 refl (λ _. tt)
+record-22 t r = tested _ _ (look.hasRow recordWidth t r && ltb 0 (look.recordWord t r 0)) _ 22 refl (λ _. tt)
 
 row-22 : (w : ℕ) (t : List ℕ) (g : Range) (i : ℕ) → Only22 (look.rowIn w t g i)
 unfolding look.rowIn

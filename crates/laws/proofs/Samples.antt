@@ -1,7 +1,7 @@
 -- Paper 01's starred samples, as one table of the definitions, with some that it does not star, those of ident and size as paper 02's g) has them,
--- constants as its d) reads them, newer opcodes as its c) and prefixes as its b) do; and sample A as a file that passes.
+-- constants as its d) reads them, parents as its a) has them, newer opcodes as its c) and prefixes as its b) do; and sample A as a file that passes.
 -- Assumes nothing.
-use Prim.Native.Nat.{ℕ, _/_, _%_}
+use Prim.Native.Nat.{ℕ, _*_, _/_, _%_}
 use mathlib.Core.Path.{_≡_, refl}
 use mathlib.Core.Bool.{true, false}
 use mathlib.Core.List.{List, [], _∷_, _++_}
@@ -9,7 +9,7 @@ use mathlib.Core.Option.{none, some}
 use lib.IntN.{pos, negsuc}
 use lib.ListN.{replicate, take, drop, set}
 use Rattle.format.specs.Bytes.{Answer, ok, refused, step, noZero, int64At}
-use Rattle.format.specs.Rows.{textRow, lineRow}
+use Rattle.format.specs.Rows.{textRow, lineRow, recordWidth}
 use Rattle.format.specs.Insn.{Z, W, S, table, row, operands, opcode, rest, lastOf, jump, target, insn, fetchAs, fetch}
 use Rattle.format.specs.Irep.{handler, poolText, symbolText, bigInteger, poolValue, poolEntry, counted, headAt, bodyAt, recordAt, recordsFrom, irepSection}
 use Rattle.format.specs.Walk.{walk, visits}
@@ -20,8 +20,8 @@ use Rattle.format.specs.File.{endSection, sectionAt, sections, fileRefusal, fil
 use Rattle.format.specs.Load.{Nine, Counts, fits, ending, loading, load}
 use Rattle.format.specs.Registers.{comments, form}
 use Rattle.format.specs.Line.{halve, lineAt, rising}
-use Rattle.format.specs.Lookup.{recordIn, rowIn, bytesIn, Constant, text, int, constantAt, constantOf, pool}
-use Rattle.format.specs.Tree.{layout, whole, span, childOf}
+use Rattle.format.specs.Lookup.{recordWord, recordIn, rowIn, bytesIn, Constant, text, int, constantAt, constantOf, pool}
+use Rattle.format.specs.Tree.{layout, whole, span, childOf, noParent, nodesFrom}
 use Rattle.format.specs.Pattern.{Record, patternOf, reach, lands}
 use Rattle.format.specs.Exam.{FilePasses, stray, readable, below, allBelow, operandsBelow, rangeBelow, bounded, follows, firstAt, firstOf, exam16, exam1718, exam19, exam20}
 use Rattle.format.specs.Exam.{examineRecord, examineAll, examinePattern, passing, examining, examine}
@@ -51,6 +51,10 @@ endAlone n size = take 20 (sized n) ++ 69 ∷ 78 ∷ 68 ∷ 0 ∷ 0 ∷ 0 ∷ 0 
 lent : ℕ → Nine
 lent n = record { records = n; handlers = 0; pool = 0; symbols = 0; strings = 0; names = 0; fileNames = 0; files = 0; lines = 0 }
 
+-- room for two records
+twoRows : Nine
+twoRows = lent (2 * recordWidth)
+
 -- Paper 02, d): A's record with two constants, the int64 258 with its high byte first and the string "a\0b"; the byte behind the string stands
 -- at place 69
 fileD : List ℕ
@@ -71,7 +75,7 @@ unvisited n = record { rows = n; visits = 0 }
 
 -- constant j of D, over the tables that its load leaves
 constantD : ℕ → Answer Constant
-constantD j = let t = load fileD (lentPool 19 6) .tables in pool fileD (t .records) (t .pool) 0 j
+constantD j = let t = load fileD (lentPool recordWidth 6) .tables in pool fileD (t .records) (t .pool) 0 j
 
 -- the bytes of "a\0b" with its length before it and its zero behind it
 zeroInside : List ℕ
@@ -106,36 +110,46 @@ noneM = set (take 32 (sized 52)) 27 12 ++ drop 56 (fileM 0)
 visited : ℕ → ℕ → Counts
 visited n k = record { rows = lent n; visits = k }
 
+-- Paper 02, a): depth and parent of record i, once a file is loaded
+nodeIn : List ℕ → ℕ → List ℕ
+nodeIn f i = let t = load f twoRows .tables .records in recordWord t i 19 ∷ recordWord t i 20 ∷ []
+
 record Table : Type 0 where
-  a-loads : load fileA (lent 38) .answer ≡ ok (unvisited (lent 1))
-  a-row : load fileA (lent 38) .tables .records ≡ 24 ∷ 1 ∷ 2 ∷ 0 ∷ 0 ∷ 4 ∷ 48 ∷ replicate 31 0
-  a-three-zeros : load (fileA ++ replicate 3 0) (lent 38) .answer ≡ ok (unvisited (lent 1))
-  a-four-zeros : load (fileA ++ replicate 4 0) (lent 38) .answer ≡ refused 5
-  end-loads : load (endAlone 31 12) (lent 38) .answer ≡ ok (unvisited (lent 0))
-  end-no-tree : examine (endAlone 31 12) (lent 38) .answer ≡ refused 15
-  end-of-size-0 : load (endAlone 31 0) (lent 38) .answer ≡ refused 8
-  end-of-31-bytes : load (take 31 (endAlone 31 12)) (lent 38) .answer ≡ refused 4
-  end-states-32 : load (take 31 (endAlone 32 12)) (lent 38) .answer ≡ refused 28
-  a-states-0 : load (sized 0) (lent 38) .answer ≡ ok (unvisited (lent 1))
-  a-states-63 : load (sized 63) (lent 38) .answer ≡ ok (unvisited (lent 1))
-  a-states-65 : load (sized 65) (lent 38) .answer ≡ refused 28
-  a-low-byte-first : load (set (sized 0) 8 64) (lent 38) .answer ≡ refused 28
-  a-no-ident : load (set fileA 3 70) (lent 38) .answer ≡ refused 27
-  ident-before-size : load (set (sized 65) 0 114) (lent 38) .answer ≡ refused 27
-  size-before-major : load (set (sized 65) 5 51) (lent 38) .answer ≡ refused 28
-  m-whole : load (fileM 0) (lent 38) .answer ≡ ok (visited 1 1)
-  m-past-the-last : load (fileM 3) (lent 38) .answer ≡ ok (visited 1 4)
-  m-most-of-one : load (fileM 65535) (lent 38) .answer ≡ ok (visited 1 65536)
-  m-two-whole : load (twoM 1) (lent 38) .answer ≡ ok (visited 2 2)
-  m-not-reached : load (twoM 0) (lent 38) .answer ≡ ok (visited 2 1)
-  m-both-reached : load (twoM 300) (lent 38) .answer ≡ ok (visited 2 301)
-  m-no-records : load noneM (lent 38) .answer ≡ ok (visited 0 1)
-  m-passes : examine (twoM 1) (lent 38) .answer ≡ ok (visited 2 2)
-  d-loads : load fileD (lentPool 19 6) .answer ≡ ok (unvisited (lentPool 1 2))
-  d-rows : load fileD (lentPool 19 6) .tables .pool ≡ 3 ∷ 55 ∷ 8 ∷ 0 ∷ 66 ∷ 3 ∷ []
+  a-loads : load fileA twoRows .answer ≡ ok (unvisited (lent 1))
+  a-row : load fileA twoRows .tables .records ≡ 24 ∷ 1 ∷ 2 ∷ 0 ∷ 0 ∷ 4 ∷ 48 ∷ (replicate 13 0 ++ noParent ∷ replicate recordWidth 0)
+  a-three-zeros : load (fileA ++ replicate 3 0) twoRows .answer ≡ ok (unvisited (lent 1))
+  a-four-zeros : load (fileA ++ replicate 4 0) twoRows .answer ≡ refused 5
+  end-loads : load (endAlone 31 12) twoRows .answer ≡ ok (unvisited (lent 0))
+  end-no-tree : examine (endAlone 31 12) twoRows .answer ≡ refused 15
+  end-of-size-0 : load (endAlone 31 0) twoRows .answer ≡ refused 8
+  end-of-31-bytes : load (take 31 (endAlone 31 12)) twoRows .answer ≡ refused 4
+  end-states-32 : load (take 31 (endAlone 32 12)) twoRows .answer ≡ refused 28
+  a-states-0 : load (sized 0) twoRows .answer ≡ ok (unvisited (lent 1))
+  a-states-63 : load (sized 63) twoRows .answer ≡ ok (unvisited (lent 1))
+  a-states-65 : load (sized 65) twoRows .answer ≡ refused 28
+  a-low-byte-first : load (set (sized 0) 8 64) twoRows .answer ≡ refused 28
+  a-no-ident : load (set fileA 3 70) twoRows .answer ≡ refused 27
+  ident-before-size : load (set (sized 65) 0 114) twoRows .answer ≡ refused 27
+  size-before-major : load (set (sized 65) 5 51) twoRows .answer ≡ refused 28
+  m-whole : load (fileM 0) twoRows .answer ≡ ok (visited 1 1)
+  m-past-the-last : load (fileM 3) twoRows .answer ≡ ok (visited 1 4)
+  m-most-of-one : load (fileM 65535) twoRows .answer ≡ ok (visited 1 65536)
+  m-two-whole : load (twoM 1) twoRows .answer ≡ ok (visited 2 2)
+  m-not-reached : load (twoM 0) twoRows .answer ≡ ok (visited 2 1)
+  m-both-reached : load (twoM 300) twoRows .answer ≡ ok (visited 2 301)
+  m-no-records : load noneM twoRows .answer ≡ ok (visited 0 1)
+  m-passes : examine (twoM 1) twoRows .answer ≡ ok (visited 2 2)
+  parent-none : nodeIn (twoM 1) 0 ≡ 0 ∷ noParent ∷ []
+  parent-whole : nodeIn (twoM 1) 1 ≡ 1 ∷ 0 ∷ []
+  parent-not-whole : nodeIn (twoM 300) 1 ≡ 1 ∷ 0 ∷ []
+  parent-unreached : nodeIn (twoM 0) 1 ≡ 0 ∷ noParent ∷ []
+  parent-unused : nodeIn (fileM 0) 1 ≡ 0 ∷ 0 ∷ []
+  parent-refused : nodeIn (sized 65) 0 ≡ 0 ∷ 0 ∷ []
+  d-loads : load fileD (lentPool recordWidth 6) .answer ≡ ok (unvisited (lentPool 1 2))
+  d-rows : load fileD (lentPool recordWidth 6) .tables .pool ≡ 3 ∷ 55 ∷ 8 ∷ 0 ∷ 66 ∷ 3 ∷ []
   d-int64 : constantD 0 ≡ ok (int (pos 258))
   d-string : constantD 1 ≡ ok (text (textRow 66 3))
-  d-not-ended : load (set fileD 69 1) (lentPool 19 6) .answer ≡ refused 9
+  d-not-ended : load (set fileD 69 1) (lentPool recordWidth 6) .answer ≡ refused 9
   string-inner-zero : poolText zeroInside 0 0 ≡ ok (step (textRow 2 3) 6)
   symbol-inner-zero : symbolText zeroInside 0 0 ≡ refused 9
   name-inner-zero : plainText zeroInside 0 0 ≡ refused 9
@@ -230,14 +244,14 @@ record Table : Type 0 where
   whole-tree : whole (2 ∷ 0 ∷ 0 ∷ []) ≡ true
   no-tree : whole (0 ∷ 1 ∷ []) ≡ false
   no-records : examinePattern [] ≡ 15
-  a-content : loading fileA (lent 38) ≡ ok (fileReading fileA .it)
+  a-content : loading fileA twoRows ≡ ok (fileReading fileA .it)
   a-meets-none : examinePattern (patternOf fileA (fileReading fileA .it)) ≡ 0
-  a-passes : examine fileA (lent 38) .answer ≡ ok (unvisited (lent 1))
-  a-goes-on : follow fileA (lent 38) 2 (0 ∷ []) .answer ≡ ok (stands (frame 0 2) none 1)
-  a-frames : follow fileA (lent 38) 5 (0 ∷ []) .frames ≡ 0 ∷ 2 ∷ 0 ∷ 0 ∷ 0 ∷ []
-  a-finishes : follow fileA (lent 38) 2 (0 ∷ 0 ∷ []) .answer ≡ ok finished
-  a-choices : follow fileA (lent 38) 2 (0 ∷ 5 ∷ []) .answer ≡ refused 21
-  a-short : follow fileA (lent 38) 1 (0 ∷ 5 ∷ []) .answer ≡ refused 14
+  a-passes : examine fileA twoRows .answer ≡ ok (unvisited (lent 1))
+  a-goes-on : follow fileA twoRows 2 (0 ∷ []) .answer ≡ ok (stands (frame 0 2) none 1)
+  a-frames : follow fileA twoRows 5 (0 ∷ []) .frames ≡ 0 ∷ 2 ∷ 0 ∷ 0 ∷ 0 ∷ []
+  a-finishes : follow fileA twoRows 2 (0 ∷ 0 ∷ []) .answer ≡ ok finished
+  a-choices : follow fileA twoRows 2 (0 ∷ 5 ∷ []) .answer ≡ refused 21
+  a-short : follow fileA twoRows 1 (0 ∷ 5 ∷ []) .answer ≡ refused 14
   list : choices (0 ∷ 3 ∷ 1 ∷ 2 ∷ 4 ∷ []) ≡ ok (go-on ∷ caught 258 ∷ leave ∷ [])
   above : choices (5 ∷ []) ≡ refused 21
   cut : choices (3 ∷ 1 ∷ []) ≡ refused 21
@@ -246,8 +260,8 @@ samples : Table
 unfolding table row operands opcode rest lastOf jump target fetchAs fetch packedFrom packed halve lineAt handler poolText symbolText bigInteger poolValue
     poolEntry counted headAt bodyAt recordAt recordsFrom irepSection walk visits noZero plainText nameEntry recordNames lvarSection fileHead mapEntry
     mapLines filesFrom debugRecord debugContent debugSection packedEntry endSection sectionAt sections fileRefusal fileReading fits ending loading load sized
-    endAlone lent unvisited alone family oval fileD lentPool constantD fileM twoM noneM visited zeroInside recordIn rowIn bytesIn constantAt constantOf pool
-    rising layout span childOf reach lands stray readable below allBelow operandsBelow rangeBelow bounded comments form follows firstAt firstOf exam16 exam1718 exam19 exam20 examineRecord
+    endAlone lent twoRows nodeIn unvisited alone family oval fileD lentPool constantD fileM twoM noneM visited zeroInside recordIn rowIn bytesIn constantAt constantOf pool
+    rising layout span childOf nodesFrom reach lands stray readable below allBelow operandsBelow rangeBelow bounded comments form follows firstAt firstOf exam16 exam1718 exam19 exam20 examineRecord
     examineAll examinePattern passing examining examine childOperand move oneStep runFrom choicesFrom standing laidFrames frameTable following follow
 samples = record {
   a-loads = refl;
@@ -274,6 +288,12 @@ samples = record {
   m-both-reached = refl;
   m-no-records = refl;
   m-passes = refl;
+  parent-none = refl;
+  parent-whole = refl;
+  parent-not-whole = refl;
+  parent-unreached = refl;
+  parent-unused = refl;
+  parent-refused = refl;
   d-loads = refl;
   d-rows = refl;
   d-int64 = refl;
@@ -390,7 +410,7 @@ samples = record {
 pub a-file : FilePasses fileA
 a-file =
     let c = fileReading fileA .it in
-    record { tables = lent 38; content = c; loads = samples .a-content; passes = passes-iff (patternOf fileA c) .0 (samples .a-meets-none) }
+    record { tables = twoRows; content = c; loads = samples .a-content; passes = passes-iff (patternOf fileA c) .0 (samples .a-meets-none) }
 
 pub a-claim : (cs : List Choice) → Claim fileA (a-file .content) cs
 a-claim cs = demand3 fileA a-file cs

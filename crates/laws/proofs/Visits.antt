@@ -9,16 +9,16 @@ use mathlib.Core.Option.{Option, none, some}
 use lib.ListN.{length, getD, take, drop}
 use Rattle.format.specs.Bytes.{ok, u32At}
 use Rattle.format.specs.Irep.{Rec}
-use Rattle.format.specs.Walk.{visits}
+use Rattle.format.specs.Walk.{rlens, visits}
 use Rattle.format.specs.Lvar.{Lvar, recordNames}
 use Rattle.format.specs.File.{Content, content}
-use Rattle.format.specs.Load.{Nine, recordsOf, namesOf, filesOf, start, tablesOf, used, visitsOf, loading, load}
+use Rattle.format.specs.Load.{Nine, recordsOf, namesOf, filesOf, tablesOf, used, visitsOf, loading, load}
 use Rattle.format.specs.Tree.{total, Whole, span}
 use Rattle.format.specs.Pattern.{patternOf}
 use Rattle.format.specs.Pattern as pattern
 use Rattle.format.specs.Exam.{Passes}
-use Rattle.format.proofs.Places.{rows-length}
-use Rattle.format.proofs.Walk.{rlens, visits-sum, visits-inside, visits-beyond, visits-whole, walk-span}
+use Rattle.format.proofs.Places.{records-length}
+use Rattle.format.proofs.Walk.{visits-sum, visits-inside, visits-beyond, visits-whole, walk-span}
 use Rattle.bounds.proofs.Bounds.{visits-few}
 use Rattle.layout.proofs.Inside.{loading-reading, loading-held}
 use Rattle.runs.proofs.Tree.{whole-iff}
@@ -51,7 +51,7 @@ module _ (f : List ℕ) (m : Nine) (c : Content) (loads : loading f m ≡ ok c) 
   pub at-most : ((i : ℕ) → getD f i 0 < 256) → visitsOf c ≤ 67107841
   at-most bytes =
       let x = loading-reading f m c loads in
-      let n = rows-length (recordsOf c) start (namesOf c) (filesOf c) in
+      let n = records-length c in
       let few : length (recordsOf c) ≤ 1024 = omega (arith, n, loading-held f m c loads .few) in
       let all : length (recordsOf c) ≤ 1024 → visitsOf c ≤ 67107841 =
       subst (λ (d : Content). length (recordsOf d) ≤ 1024 → visitsOf d ≤ 67107841) (x .0) (visits-few f bytes) in

@@ -22,7 +22,7 @@ use Rattle.format.specs.File.{Content, content, isMark, endSection, once, after
 use Rattle.format.specs.Load.{recordsOf, namesOf}
 use Rattle.format.specs.Tree.{total, Whole}
 use Rattle.format.proofs.Answers.{ok-refused, inTurn-all}
-pub use Rattle.format.proofs.Walk.{rlens}
+pub use Rattle.format.specs.Walk.{rlens}
 use Rattle.layout.proofs.Ends.{reading-keeps}
 
 -- Every record of rs is visited once, in order: record 0 at `from`, each other where the visit before it ended, and the last visit ends at

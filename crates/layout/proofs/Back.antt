@@ -13,9 +13,9 @@ use lib.Seq.{ext-getD, getD-append-add}
 use borrow.Author.Tests.{lt-ltb, le-ltb, le-leb}
 use Rattle.format.specs.Bytes.{ok, refused}
 use Rattle.format.specs.Rows.{Range, HandlerRow, handlerWords, PoolRow, poolWords, TextRow, textWords, NameRow, nameWords, FileRow, fileWords}
-use Rattle.format.specs.Rows.{LineRow, lineRow, lineWords, RecordRow, recordWords, flat, tableOf}
+use Rattle.format.specs.Rows.{LineRow, lineRow, lineWords, RecordRow, recordWidth, recordWords, flat, tableOf}
 use Rattle.format.specs.Line.{rowsFrom, lineRowAt}
-use Rattle.format.specs.Lookup.{word, recordRowAt, handlerRowAt, poolRowAt, textRowAt, fileRowAt, hasRow, rowIn, rowsIn}
+use Rattle.format.specs.Lookup.{word, recordWord, recordRowAt, handlerRowAt, poolRowAt, textRowAt, fileRowAt, hasRow, rowIn, rowsIn}
 use Rattle.format.proofs.Places.{flat-length}
 use Rattle.format.proofs.RowsFrom.{rowsFrom-length, rowsFrom-at}
 use Rattle.layout.proofs.Own.{Own, table-row, own-word}
@@ -72,7 +72,7 @@ module _ {R : Type 0} (words : R → List ℕ) (w : ℕ) (wide : (r : R) → len
 -- a record's row
 pub record-back : (m : ℕ) (rs : List RecordRow) (i : ℕ) (d : RecordRow) → i < length rs → recordRowAt (tableOf recordWords m rs) i ≡ getD rs i d
 record-back m rs i d h =
-    let e : (k : ℕ) → k < 19 → word 19 (tableOf recordWords m rs) i k ≡ getD (recordWords (getD rs i d)) k 0 = λ k g. table-row recordWords 19 (λ _. refl) m rs i k d h g in
+    let e : (k : ℕ) → k < recordWidth → recordWord (tableOf recordWords m rs) i k ≡ getD (recordWords (getD rs i d)) k 0 = λ k g. table-row recordWords recordWidth (λ _. refl) m rs i k d h g in
     rw (
       e 0 (omega arith),
       e 1 (omega arith),
@@ -93,6 +93,8 @@ record-back m rs i d h =
       e 16 (omega arith),
       e 17 (omega arith),
       e 18 (omega arith),
+      e 19 (omega arith),
+      e 20 (omega arith),
     )
 
 -- a text by its index

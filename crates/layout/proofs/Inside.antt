@@ -14,7 +14,7 @@ use borrow.Author.Tests.{leb-true, ltb-true, eqb-true}
 use Rattle.format.specs.Bytes.{Answer, ok, refused, onAnswer, Step, has, byte, noZero, u16At, u32At}
 use Rattle.format.specs.Headers as mark
 use Rattle.format.specs.Reading.{Read, reading, Part, part, add, andThen, inTurn}
-use Rattle.format.specs.Rows.{PoolRow, TextRow, textRow, NameRow}
+use Rattle.format.specs.Rows.{PoolRow, TextRow, textRow, NameRow, recordWidth}
 use Rattle.format.specs.Irep.{handler, poolText, symbolText, bytes, bigInteger, poolValue, poolEntry, counted, headAt, Body, Rec, bodyAt, recordAt, recordsFrom, irepSection}
 use Rattle.format.specs.Walk.{walk}
 use Rattle.format.specs.Lvar.{plainText, nameEntry, recordNames, Lvar, lvarSection}
@@ -416,7 +416,7 @@ loading-inside f m c e = let r = loading-reading f m c e in rw (r .0) at (readin
 -- every row that was read has a row of the lent tables
 pub record Held (m : Nine) (c : Content) : Type 0 where
   pub few : length (tablesOf c .records) ≤ 1024
-  pub records : length (tablesOf c .records) ≤ m .records / 19
+  pub records : length (tablesOf c .records) ≤ m .records / recordWidth
   pub handlers : length (tablesOf c .handlers) ≤ m .handlers / 4
   pub pool : length (tablesOf c .pool) ≤ m .pool / 3
   pub symbols : length (tablesOf c .symbols) ≤ m .symbols / 2

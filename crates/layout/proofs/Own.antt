@@ -15,7 +15,8 @@ use Rattle.format.specs.Rows.{Range, range, RecordRow, NameRow, FileRow, LineRo
 use Rattle.format.specs.Irep.{Rec}
 use Rattle.format.specs.Debug.{File}
 use Rattle.format.specs.File.{Content}
-use Rattle.format.specs.Load.{joined, gathered, recordsOf, namesOf, filesOf, mapOfFiles, Before, start, past, recordRow, recordRows, fileRows, Tables, tablesOf}
+use Rattle.format.specs.Tree.{Node, alone}
+use Rattle.format.specs.Load.{joined, gathered, recordsOf, namesOf, filesOf, nodesOf, mapOfFiles, Before, start, past, recordRow, recordRows, fileRows, Tables, tablesOf}
 use Rattle.format.proofs.Places.{gathered-append, word-at, fileRows-length}
 
 -- the rows of the table t that the range g names are the list l
@@ -91,22 +92,23 @@ joined-suc : {A : Type 0} (ls : List (List A)) (i : ℕ) → joined (take (suc i
 joined-suc [] i = rw take-nil
 joined-suc (l ∷ ls) i = refl
 
-getD-suc : {A : Type 0} (ls : List (List A)) (i : ℕ) → getD ls (suc i) [] ≡ getD (drop 1 ls) i []
-getD-suc [] i = refl
-getD-suc (l ∷ ls) i = refl
+getD-suc : {A : Type 0} (l : List A) (i : ℕ) (d : A) → getD l (suc i) d ≡ getD (drop 1 l) i d
+getD-suc [] i d = refl
+getD-suc (a ∷ l) i d = refl
 
-row-from : (b : Before) (rs : List Rec) (nss : List (List NameRow)) (fss : List (List File)) (i : ℕ) → i < length rs → (d : Rec) (D : RecordRow)
-    → getD (recordRows b rs nss fss) i D ≡ recordRow (plus b (before i rs nss fss)) (getD rs i d) (getD nss i []) (getD fss i [])
-row-from b [] nss fss i h d D = absurd (omega arith)
-row-from b (r ∷ rs) nss fss zero h d D = simp add-zero
-row-from b (r ∷ rs) nss fss (suc i) h d D =
-    let ih = row-from (past b r (getD nss 0 []) (getD fss 0 [])) rs (drop 1 nss) (drop 1 fss) i (le-of-suc-le-suc h) d D in
-    rw (getD-suc nss i, getD-suc fss i, joined-suc nss i, joined-suc fss i) (ih ∙ simp (gathered-append, length-append, add-assoc))
+row-from : (b : Before) (rs : List Rec) (nss : List (List NameRow)) (fss : List (List File)) (vs : List Node) (i : ℕ) → i < length rs → (d : Rec) (D : RecordRow)
+    → getD (recordRows b rs nss fss vs) i D ≡ recordRow (plus b (before i rs nss fss)) (getD rs i d) (getD nss i []) (getD fss i []) (getD vs i alone)
+row-from b [] nss fss vs i h d D = absurd (omega arith)
+row-from b (r ∷ rs) nss fss vs zero h d D = simp add-zero
+row-from b (r ∷ rs) nss fss vs (suc i) h d D =
+    let ih = row-from (past b r (getD nss 0 []) (getD fss 0 [])) rs (drop 1 nss) (drop 1 fss) (drop 1 vs) i (le-of-suc-le-suc h) d D in
+    rw (getD-suc nss i [], getD-suc fss i [], getD-suc vs i alone, joined-suc nss i, joined-suc fss i) (ih ∙ simp (gathered-append, length-append, add-assoc))
 
 -- the row of record i
 pub row-at : (c : Content) (i : ℕ) → i < length (recordsOf c) → (d : Rec) (D : RecordRow)
     → getD (tablesOf c .records) i D ≡ recordRow (before i (recordsOf c) (namesOf c) (filesOf c)) (getD (recordsOf c) i d) (getD (namesOf c) i []) (getD (filesOf c) i [])
-row-at c i h d D = row-from start (recordsOf c) (namesOf c) (filesOf c) i h d D ∙ simp zero-add
+    (getD (nodesOf c) i alone)
+row-at c i h d D = row-from start (recordsOf c) (namesOf c) (filesOf c) (nodesOf c) i h d D ∙ simp zero-add
 
 -- the rows of files behind others
 fileRows-append : (n : ℕ) (xs ys : List File) → fileRows n (xs ++ ys) ≡ fileRows n xs ++ fileRows (n + length (mapOfFiles xs)) ys

@@ -7,15 +7,15 @@ use mathlib.Core.Path.{_≡_, refl, sym, ap, _∙_}
 use mathlib.Core.List.{List, [], _∷_}
 use lib.ListN.{length, getD, take, drop}
 use Rattle.format.specs.Bytes.{ok}
-use Rattle.format.specs.Rows.{RecordRow, recordWords, handlerWords, lineWords}
+use Rattle.format.specs.Rows.{RecordRow, recordWidth, recordWords, handlerWords, lineWords}
 use Rattle.format.specs.Irep.{headAt, body, Rec}
 use Rattle.format.specs.Debug.{File}
 use Rattle.format.specs.File.{Content}
-use Rattle.format.specs.Load.{start, Nine, recordsOf, namesOf, filesOf, tablesOf, wordsOf, loading}
+use Rattle.format.specs.Load.{Nine, recordsOf, namesOf, filesOf, tablesOf, wordsOf, loading}
 use Rattle.format.specs.Line.{rowsFrom, lineRowAt}
-use Rattle.format.specs.Lookup.{word, recordRowAt}
+use Rattle.format.specs.Lookup.{word, recordWord, recordRowAt}
 use Rattle.format.specs.Pattern.{Record, recordOf, recordsWith, patternOf, blank}
-use Rattle.format.proofs.Places.{rows-length}
+use Rattle.format.proofs.Places.{records-length}
 use Rattle.layout.proofs.Own.{Owns, owns, table-row}
 use Rattle.layout.proofs.Inside.{loading-inside, Held, loading-held}
 use Rattle.layout.proofs.Back.{table-length, rows-back, lines-back, targets-back}
@@ -36,13 +36,13 @@ pattern-at f (r ∷ rs) (fs ∷ fss) (suc i) d D h = pattern-at f rs fss i d D (
 abbrev pub recordSaid : List ℕ → List ℕ → List ℕ → List ℕ → ℕ → Record
 recordSaid f recs hs ls r =
     record {
-      nregs = word 19 recs r 2;
-      rlen = word 19 recs r 3;
-      npool = word 19 recs r 10;
-      nsyms = word 19 recs r 12;
-      code = take (word 19 recs r 5) (drop (word 19 recs r 6) f);
-      handlers = rowsFrom (λ (i : ℕ). word 4 hs i 3) (word 19 recs r 7) (word 19 recs r 8);
-      lines = rowsFrom (lineRowAt ls) (word 19 recs r 17) (word 19 recs r 18);
+      nregs = recordWord recs r 2;
+      rlen = recordWord recs r 3;
+      npool = recordWord recs r 10;
+      nsyms = recordWord recs r 12;
+      code = take (recordWord recs r 5) (drop (recordWord recs r 6) f);
+      handlers = rowsFrom (λ (i : ℕ). word 4 hs i 3) (recordWord recs r 7) (recordWord recs r 8);
+      lines = rowsFrom (lineRowAt ls) (recordWord recs r 17) (recordWord recs r 18);
     }
 
 module _ (f : List ℕ) (m : Nine) (c : Content) where
@@ -54,10 +54,10 @@ module _ (f : List ℕ) (m : Nine) (c : Content) where
       → recordSaid f (wordsOf m (tablesOf c) .records) (wordsOf m (tablesOf c) .handlers) (wordsOf m (tablesOf c) .lines) i
       ≡ recordOf f (getD (recordsOf c) i d) (getD (filesOf c) i [])
   record-said i d h =
-      let g : i < length (tablesOf c .records) = rw rows-length h in
-      said (getD (tablesOf c .records) i zeroRow) (λ k q. table-row recordWords 19 (λ _. refl) (m .records) (tablesOf c .records) i k zeroRow g q) (owns c i h d zeroRow)
+      let g : i < length (tablesOf c .records) = rw records-length h in
+      said (getD (tablesOf c .records) i zeroRow) (λ k q. table-row recordWords recordWidth (λ _. refl) (m .records) (tablesOf c .records) i k zeroRow g q) (owns c i h d zeroRow)
     where
-      said : (R : RecordRow) → ((k : ℕ) → k < 19 → word 19 (wordsOf m (tablesOf c) .records) i k ≡ getD (recordWords R) k 0)
+      said : (R : RecordRow) → ((k : ℕ) → k < recordWidth → recordWord (wordsOf m (tablesOf c) .records) i k ≡ getD (recordWords R) k 0)
           → Owns (tablesOf c) R (getD (recordsOf c) i d) (getD (namesOf c) i []) (getD (filesOf c) i [])
           → recordSaid f (wordsOf m (tablesOf c) .records) (wordsOf m (tablesOf c) .handlers) (wordsOf m (tablesOf c) .lines) i
           ≡ recordOf f (getD (recordsOf c) i d) (getD (filesOf c) i [])
@@ -97,16 +97,17 @@ module _ (f : List ℕ) (m : Nine) (c : Content) where
 
 -- What record row r of filled tables names lies inside the file and the tables.
 pub record RowInside (f recs hs ls : List ℕ) (r : ℕ) : Type 0 where
-  pub inside : r * 19 + 19 ≤ length recs
-  pub bytes : word 19 recs r 6 + word 19 recs r 5 ≤ length f
-  pub handling : (word 19 recs r 7 + word 19 recs r 8) * 4 ≤ length hs
-  pub lined : (word 19 recs r 17 + word 19 recs r 18) * 2 ≤ length ls
+  pub inside : r * recordWidth + recordWidth ≤ length recs
+  pub bytes : recordWord recs r 6 + recordWord recs r 5 ≤ length f
+  pub handling : (recordWord recs r 7 + recordWord recs r 8) * 4 ≤ length hs
+  pub lined : (recordWord recs r 17 + recordWord recs r 18) * 2 ≤ length ls
 
 pub row-inside : (f : List ℕ) (m : Nine) (c : Content) → loading f m ≡ ok c → (i : ℕ) → i < length (recordsOf c)
     → RowInside f (wordsOf m (tablesOf c) .records) (wordsOf m (tablesOf c) .handlers) (wordsOf m (tablesOf c) .lines) i
 row-inside f m c loaded i h =
-    let g : i < length (tablesOf c .records) = rw rows-length h in
-    said (getD (tablesOf c .records) i (recordRowAt [] 0)) (λ k q. table-row recordWords 19 (λ _. refl) (m .records) (tablesOf c .records) i k (recordRowAt [] 0) g q) (owns c i h d (recordRowAt [] 0))
+    let g : i < length (tablesOf c .records) = rw records-length h in
+    let none = recordRowAt [] 0 in
+    said (getD (tablesOf c .records) i none) (λ k q. table-row recordWords recordWidth (λ _. refl) (m .records) (tablesOf c .records) i k none g q) (owns c i h d none)
   where
     d : Rec
     d = record { head = headAt [] 0; place = 0; body = body [] [] [] }
@@ -114,14 +115,14 @@ row-inside f m c loaded i h =
     room : Held m c
     room = loading-held f m c loaded
 
-    said : (R : RecordRow) → ((k : ℕ) → k < 19 → word 19 (wordsOf m (tablesOf c) .records) i k ≡ getD (recordWords R) k 0)
+    said : (R : RecordRow) → ((k : ℕ) → k < recordWidth → recordWord (wordsOf m (tablesOf c) .records) i k ≡ getD (recordWords R) k 0)
         → Owns (tablesOf c) R (getD (recordsOf c) i d) (getD (namesOf c) i []) (getD (filesOf c) i [])
         → RowInside f (wordsOf m (tablesOf c) .records) (wordsOf m (tablesOf c) .handlers) (wordsOf m (tablesOf c) .lines) i
     said R e o =
         record {
           inside =
-              let n = rows-length (recordsOf c) start (namesOf c) (filesOf c) in
-              rw (table-length recordWords 19 (λ _. refl) (omega arith) (m .records) (tablesOf c .records) (room .records)) (omega (arith, room .records));
+              let n = records-length c in
+              rw (table-length recordWords recordWidth (λ _. refl) (omega arith) (m .records) (tablesOf c .records) (room .records)) (omega (arith, room .records));
           bytes = rw (e 5 (omega arith), e 6 (omega arith), o .ilen, o .place) (loading-inside f m c loaded .records i d h .bytes);
           handling =
               rw (e 7 (omega arith), e 8 (omega arith), table-length handlerWords 4 (λ _. refl) (omega arith) (m .handlers) (tablesOf c .handlers) (room .handlers))

@@ -10,7 +10,7 @@ use lib.Dec.{ltb}
 use lib.ListN.{length, getD}
 use borrow.Author.Tests.{ltb-true}
 use Rattle.format.specs.Bytes.{Answer, ok, refused, bind}
-use Rattle.format.specs.Rows.{Range, RecordRow, textRow}
+use Rattle.format.specs.Rows.{Range, RecordRow, textRow, recordWidth}
 use Rattle.format.specs.Lookup as format
 use Rattle.ranges.specs.Leaves.{range, recordWords, rowAmong, recordRow}
 use Rattle.entries_debug.specs.Lines.{lineIn}
@@ -18,7 +18,7 @@ use Rattle.entries_debug.specs.Lines.{lineIn}
 -- words are missing where the record is
 pub record-missing : (t : List ℕ) (r k : ℕ) → refused 22 ≡ recordWords t r k → format.recordIn t r ≡ refused 22
 unfolding recordWords format.recordIn
-record-missing t r k e = go (format.hasRow 19 t r && ltb 0 (format.word 19 t r 0)) e
+record-missing t r k e = go (format.hasRow recordWidth t r && ltb 0 (format.recordWord t r 0)) e
   where
     go : (b : Bool) → _≡_ {A = Answer Range} (refused 22) (cond b (ok (format.rangeAt t r k)) (refused 22)) → cond b (ok (format.recordRowAt t r)) (refused 22) ≡ refused 22
     go true z = absurd (let w : _≡_ {A = ℕ} 0 1 = cc in omega arith)
@@ -28,7 +28,7 @@ record-missing t r k e = go (format.hasRow 19 t r && ltb 0 (format.word 19 t r 0
 module _ (t : List ℕ) (r k : ℕ) (g : RecordRow → Range) (same : g (format.recordRowAt t r) ≡ format.rangeAt t r k) where
   words-through : {A : Type 0} (m : Range → Answer A) → bind (recordWords t r k) m ≡ bind (format.recordIn t r) (λ x. m (g x))
   unfolding recordWords format.recordIn
-  words-through {A} m = go (format.hasRow 19 t r && ltb 0 (format.word 19 t r 0))
+  words-through {A} m = go (format.hasRow recordWidth t r && ltb 0 (format.recordWord t r 0))
     where
       go : (b : Bool) → bind (cond b (ok (format.rangeAt t r k)) (refused 22)) m ≡ bind (cond b (ok (format.recordRowAt t r)) (refused 22)) (λ x. m (g x))
       go true = ap m (sym same)

@@ -10,17 +10,17 @@ use lib.ListN.{length, take, length-append}
 use Rattle.format.specs.Bytes as bytes
 use Rattle.format.specs.Bytes.{Answer, ok, refused, has, u32At}
 use Rattle.format.specs.Reading.{Read, Part, part, add, andThen, inTurn}
-use Rattle.format.specs.Rows.{TextRow, NameRow, recordWords, textWords, nameWords, tableOf}
+use Rattle.format.specs.Rows.{TextRow, NameRow, recordWidth, recordWords, textWords, nameWords, tableOf}
 use Rattle.format.specs.Irep.{Rec}
 use Rattle.format.specs.Walk as format
-use Rattle.format.specs.Walk.{visits}
+use Rattle.format.specs.Walk.{rlens, visits}
 use Rattle.format.specs.Line.{rowsFrom}
 use Rattle.format.specs.Lvar.{Lvar, plainText, nameEntry, recordNames, lvarSection}
 use Rattle.format.specs.Debug.{File}
 use Rattle.format.specs.Load.{joined, start, recordRows, Nine}
 use Rattle.format.proofs.Answers.{inTurn-all}
 use Rattle.format.proofs.Places.{joined-append, joined-snoc, record-word, names-put}
-use Rattle.format.proofs.Walk.{rlens, span-most, walk-span, walk-visits}
+use Rattle.format.proofs.Walk.{span-most, walk-span, walk-visits}
 use Rattle.rows.specs.declared.Rows.the-variants as rows
 use Rattle.rows.specs.Table.{out, rowCount, firstOf, times}
 use Rattle.rows.specs.Rows.{stringOf, nameOf}
@@ -33,7 +33,7 @@ use Rattle.lvar.specs.Section.{Filled, filled, endOf, walked, lvarOf}
 -- the walk, with so many words for the records and for the names
 module _ (f : List ℕ) (strings m k : ℕ) (fss : List (List File)) where
   abbrev R : List Rec → List (List NameRow) → List ℕ
-  R rs nss = tableOf recordWords m (recordRows start rs nss fss)
+  R rs nss = tableOf recordWords m (recordRows start rs nss fss [])
 
   abbrev N : List (List NameRow) → List ℕ
   N nss = tableOf nameWords k (joined nss)
@@ -86,7 +86,7 @@ module _ (f : List ℕ) (strings m k : ℕ) (fss : List (List File)) where
     rlen-is : rlenOf (R all nss) (length nss) ≡ r .head .rlen
     rlen-is = rw e (record-word m start qs r rs nss fss 3 (omega arith))
 
-    put-is : (ns : List NameRow) (c : ℕ) → length ns ≡ c → putNames (R all nss) (length nss * 19) (firstOf (length (joined nss)) c) c ≡ R all (nss ++ ns ∷ [])
+    put-is : (ns : List NameRow) (c : ℕ) → length ns ≡ c → putNames (R all nss) (length nss * recordWidth) (firstOf (length (joined nss)) c) c ≡ R all (nss ++ ns ∷ [])
     put-is ns c l =
         let z : 0 + length (joined nss) ≡ length (joined nss) = omega arith in
         rw (← l, e) (rw z at (names-put m start qs r rs nss ns fss e))
@@ -163,7 +163,7 @@ module _ (f : List ℕ) (strings m k : ℕ) (fss : List (List File)) where
 -- the section: m has the sizes of the tables
 module _ (m : Nine) (f : List ℕ) (base : ℕ) (rs : List Rec) (fss : List (List File)) where
   abbrev O : Filled
-  O = lvarOf f base (length rs) (tableOf recordWords (m .records) (recordRows start rs [] fss)) (tableOf textWords (m .strings) []) (tableOf nameWords (m .names) [])
+  O = lvarOf f base (length rs) (tableOf recordWords (m .records) (recordRows start rs [] fss [])) (tableOf textWords (m .strings) []) (tableOf nameWords (m .names) [])
 
   abbrev P : Part Lvar
   P = lvarSection f base rs
@@ -178,7 +178,7 @@ module _ (m : Nine) (f : List ℕ) (base : ℕ) (rs : List Rec) (fss : List (Lis
       (λ size.
       O
       ≡ filled (lvar.Next size (length (P .it .strings)) (length (joined (P .it .names))) (inWord (visits rs 1)))
-      (tableOf recordWords (m .records) (recordRows start rs (P .it .names) fss))
+      (tableOf recordWords (m .records) (recordRows start rs (P .it .names) fss []))
       (tableOf textWords (m .strings) (P .it .strings))
       (tableOf nameWords (m .names) (joined (P .it .names))))
       (λ k. O .ans ≡ lvar.Refused k)

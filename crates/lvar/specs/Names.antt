@@ -7,6 +7,7 @@ use lib.Dec.{eqb}
 use lib.ListN.{getD, set}
 use Rattle.format.specs.Line.{rowsFrom}
 use Rattle.format.specs.Tree.{total}
+use Rattle.format.specs.Rows.{recordWidth}
 use Rattle.rows.specs.Table.{Out, onRows, firstOf, times}
 use Rattle.rows.specs.Rows.{nameOf}
 use Rattle.rows.specs.Walk.{Run, go, stop, walk}
@@ -39,10 +40,10 @@ outOf (Refused e) rs ns = stop e (tables rs ns)
 
 -- words of a record's row: nlocals and rlen
 abbrev pub nlocalsOf : List ℕ → ℕ → ℕ
-nlocalsOf rs r = getD rs (r * 19 + 1) 0
+nlocalsOf rs r = getD rs (r * recordWidth + 1) 0
 
 abbrev pub rlenOf : List ℕ → ℕ → ℕ
-rlenOf rs r = getD rs (r * 19 + 3) 0
+rlenOf rs r = getD rs (r * recordWidth + 3) 0
 
 -- the words of the row from `row` on that say its first name and the number of its names
 abbrev pub putNames : List ℕ → ℕ → ℕ → ℕ → List ℕ
@@ -52,7 +53,7 @@ putNames rs row first n = set (set rs (row + 13) first) (row + 14) n
 abbrev pub withNames : State → ℕ → Out → Run State Tables
 withNames st n o =
     onRows (o .ans)
-    (λ at u. go (state at (st .rec + 1) u (putNames (st .records) (st .rec * 19) (firstOf (st .used) n) n) (o .tab)))
+    (λ at u. go (state at (st .rec + 1) u (putNames (st .records) (st .rec * recordWidth) (firstOf (st .used) n) n) (o .tab)))
     (λ e. stop e (tables (st .records) (o .tab)))
 
 -- the entries of the record that the state is at: "A visited record takes nlocals - 1 entries"; "11: a visited record has nlocals 0"

@@ -1,6 +1,7 @@
 // The LVAR section: its strings, then the names of each record that the walk visits, put into lent tables of words.
 use binfmt::Field32;
 use binfmt::u32_at;
+use format::RECORD_WIDTH;
 use headers::section_size;
 use rows::Row;
 use rows::Rows;
@@ -11,6 +12,7 @@ ghost use Prim.Native.Nat.{_+_, _*_, _≤_, _<_};
 ghost use lib.ListN.{length};
 ghost use Rattle.lvar.specs.Names.{state, outOf, putNames, lvStep, lvWalk, visitsOver, inWord};
 ghost use Rattle.lvar.specs.Section.{filled, endOf, lvarOf};
+ghost use Rattle.format.specs.Rows.{recordWidth};
 
 // The next place, the next record and the names used, or a refusal's number.
 enum Walk {
@@ -48,10 +50,10 @@ fn read_record(
     rec: usize,
     used: u32,
 ) -> Walk
-    requires { ⌜ (length (now f) ≤ 65536) × (rec * 19 + 14 < length (now records)) ⌝ }
+    requires { ⌜ (length (now f) ≤ 65536) × (rec * recordWidth + 14 < length (now records)) ⌝ }
     ensures { λ r. ⌜ outOf r (now (records .exit)) (now (names .exit)) ≡ lvStep (now (f .entry)) strings (state at rec used (now (records .entry)) (now (names .entry))) ⌝ }
 {
-    let row = rec * 19;
+    let row = rec * RECORD_WIDTH;
     let nlocals = records[row + 1];
     if nlocals == 0 {
         return Walk::Refused(11);
@@ -85,13 +87,13 @@ fn read_lv_records(
     rec: usize,
     used: u32,
 ) -> Walk
-    requires { ⌜ (length (now f) ≤ 65536) × (count * 19 ≤ length (now records)) ⌝ }
+    requires { ⌜ (length (now f) ≤ 65536) × (count * recordWidth ≤ length (now records)) ⌝ }
     ensures { λ r. ⌜ outOf r (now (records .exit)) (now (names .exit)) ≡ lvWalk (now (f .entry)) strings count 1 (state at rec used (now (records .entry)) (now (names .entry))) ⌝ }
 {
     if count <= rec {
         return Walk::Next { at, rec, used };
     }
-    let rlen = records[rec * 19 + 3];
+    let rlen = records[rec * RECORD_WIDTH + 3];
     match read_record(f, records, names, strings, at, rec, used) {
         Walk::Refused(k) => Walk::Refused(k),
         Walk::Next {
@@ -139,13 +141,13 @@ fn read_lv_records(
 // The visits of a walk that visits the first n records: that of record 0 and one for each child, past the last record or not. For no file is the
 // sum above a word.
 fn visits(records: &[u32], n: usize) -> u32
-    requires { ⌜ n * 19 ≤ length (now records) ⌝ }
+    requires { ⌜ n * recordWidth ≤ length (now records) ⌝ }
     ensures { λ r. ⌜ r ≡ inWord (visitsOver (now (records .entry)) n) ⌝ }
 {
     let mut sum: u32 = 1;
     let mut i = 0;
     while i < n {
-        sum = std::num::wrapping_add_u32(sum, records[i * 19 + 3]);
+        sum = std::num::wrapping_add_u32(sum, records[i * RECORD_WIDTH + 3]);
         i += 1;
     }
     sum
@@ -179,7 +181,7 @@ pub fn section_lvar(
     strings: &mut [u32],
     names: &mut [u32],
 ) -> Lvar
-    requires { ⌜ (base + length (now f) ≤ 65536) × (count * 19 ≤ length (now records)) ⌝ }
+    requires { ⌜ (base + length (now f) ≤ 65536) × (count * recordWidth ≤ length (now records)) ⌝ }
     ensures { λ r. ⌜ filled r (now (records .exit)) (now (strings .exit)) (now (names .exit))
         ≡ lvarOf (now (f .entry)) base count (now (records .entry)) (now (strings .entry)) (now (names .entry)) ⌝ }
 {

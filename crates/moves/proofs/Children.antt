@@ -7,7 +7,7 @@ use native.Mathlib.Omega.{arith}
 use mathlib.Core.Path.{_≡_, refl}
 use mathlib.Core.List.{List, []}
 use lib.ListN.{length, getD, drop, drop-of-length-le}
-use Rattle.format.specs.Lookup.{word}
+use Rattle.format.specs.Lookup.{recordWord}
 use Rattle.format.specs.Tree.{span, childOf}
 use Rattle.format.proofs.RowsFrom.{rowsFrom-length, rowsFrom-at}
 use Rattle.runs.proofs.Tree.{kid-closed, span-zero, span-nil}
@@ -21,17 +21,17 @@ pub record Seeking (recs : List ℕ) (n r k i p : ℕ) : Type 0 where
   pub same : childOf (rlensAt recs n) r k ≡ i + span p (drop i (rlensAt recs n))
 
 count : (recs : List ℕ) (n : ℕ) → length (rlensAt recs n) ≡ n
-count recs n = rowsFrom-length (λ (x : ℕ). word 19 recs x 3) 0 n
+count recs n = rowsFrom-length (λ (x : ℕ). recordWord recs x 3) 0 n
 
-rlen-at : (recs : List ℕ) (n i : ℕ) → i < n → getD (rlensAt recs n) i 0 ≡ word 19 recs i 3
-rlen-at recs n i h = rw zero-add at (rowsFrom-at (λ (x : ℕ). word 19 recs x 3) 0 n i 0 h)
+rlen-at : (recs : List ℕ) (n i : ℕ) → i < n → getD (rlensAt recs n) i 0 ≡ recordWord recs i 3
+rlen-at recs n i h = rw zero-add at (rowsFrom-at (λ (x : ℕ). recordWord recs x 3) 0 n i 0 h)
 
 module _ {recs : List ℕ} {n r k : ℕ} where
   pub seeking-start : r < n → k < 4294967296 → Seeking recs n r k (r + 1) k
   seeking-start h g = record { inside = omega arith; bounded = omega arith; same = rw add-one (kid-closed (rlensAt recs n) r k) }
 
   -- v: the rlen of record i
-  pub seeking-turn : (i p v : ℕ) → i < n → (p ≡ 0 → ⊥) → v ≡ word 19 recs i 3 → v < 4294967296 → Seeking recs n r k i p
+  pub seeking-turn : (i p v : ℕ) → i < n → (p ≡ 0 → ⊥) → v ≡ recordWord recs i 3 → v < 4294967296 → Seeking recs n r k i p
       → Seeking recs n r k (i + 1) (p - 1 + v)
   seeking-turn i zero v h z e b s = absurd (z refl)
   seeking-turn i (suc p) v h z e b s = record {

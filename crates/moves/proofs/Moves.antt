@@ -11,7 +11,7 @@ use lib.ListN.{length, take, drop}
 use borrow.Author.Tests.{lt-ltb, le-ltb, ne-eqb}
 use Rattle.format.specs.Bytes.{byte, u16At}
 use Rattle.format.specs.Insn.{Flow, on, ends, jumps, may, roles, flow, secondWidth, operand, opcode, rowAt, operandsAt, next, target}
-use Rattle.format.specs.Lookup.{word}
+use Rattle.format.specs.Lookup.{recordWord}
 use Rattle.format.specs.Pattern.{Record, begins, lands}
 use Rattle.format.specs.Exam.{stray, readable, leads, hasTarget, follows}
 use Rattle.format.specs.Run.{Choice, go-on, jump, enter, leave, caught, isChild, childOperand, Move, gone, to, into, goes, jumped, move}
@@ -175,10 +175,10 @@ unfolding move
 by-leave c ts o e = ap (λ (k : moves.Choice). move (part c ts) o (choiceOf k)) (sym e)
 
 -- the part of the file that is a record's instruction bytes
-pub code-is : (f recs : List ℕ) (r a n : ℕ) → a ≡ word 19 recs r 6 → n ≡ word 19 recs r 5 → take (a + n - a) (drop a f) ≡ codeAt f recs r
+pub code-is : (f recs : List ℕ) (r a n : ℕ) → a ≡ recordWord recs r 6 → n ≡ recordWord recs r 5 → take (a + n - a) (drop a f) ≡ codeAt f recs r
 code-is f recs r a n p q = let d : a + n - a ≡ n = omega arith in rw (d, p, q)
 
 -- the words that the code read of record row r
-pub moved-in : (f recs hs : List ℕ) (r o : ℕ) (ch : Choice) {a n h k : ℕ} {m : Move} → a ≡ word 19 recs r 6 → n ≡ word 19 recs r 5 → h ≡ word 19 recs r 7
-    → k ≡ word 19 recs r 8 → m ≡ move (part (take (a + n - a) (drop a f)) (targets hs h k)) o ch → m ≡ move (partAt f recs hs r) o ch
+pub moved-in : (f recs hs : List ℕ) (r o : ℕ) (ch : Choice) {a n h k : ℕ} {m : Move} → a ≡ recordWord recs r 6 → n ≡ recordWord recs r 5 → h ≡ recordWord recs r 7
+    → k ≡ recordWord recs r 8 → m ≡ move (part (take (a + n - a) (drop a f)) (targets hs h k)) o ch → m ≡ move (partAt f recs hs r) o ch
 moved-in f recs hs r o ch {a} {n} ea en eh ek q = q ∙ rw (code-is f recs r a n ea en, eh, ek)

@@ -2,7 +2,7 @@
 -- Assumes nothing.
 use Prim.Native.Nat.{ℕ}
 use mathlib.Core.List.{List, []}
-use Rattle.format.specs.Lookup.{word}
+use Rattle.format.specs.Lookup.{recordWord}
 use Rattle.format.specs.Pattern.{Record}
 use Rattle.exam.specs.View.{codeAt, targets}
 
@@ -11,4 +11,4 @@ part c ts = record { nregs = 0; rlen = 0; npool = 0; nsyms = 0; code = c; handle
 
 -- of record row r
 abbrev pub partAt : List ℕ → List ℕ → List ℕ → ℕ → Record
-partAt f recs hs r = part (codeAt f recs r) (targets hs (word 19 recs r 7) (word 19 recs r 8))
+partAt f recs hs r = part (codeAt f recs r) (targets hs (recordWord recs r 7) (recordWord recs r 8))

@@ -3,6 +3,7 @@ use exam::word;
 use flags::next_offset;
 use flags::opcode_at;
 use flags::operand_at;
+use format::RECORD_WIDTH;
 use opcode::Flow;
 use opcode::OpRow;
 use opcode::Role;
@@ -18,6 +19,7 @@ ghost use Rattle.format.specs.Insn.{target};
 ghost use Rattle.format.specs.Lookup as table;
 ghost use Rattle.format.specs.Tree.{childOf};
 ghost use Rattle.format.specs.Run as format;
+ghost use Rattle.format.specs.Rows.{recordWidth};
 ghost use Rattle.runs.specs.Stack.{Stands, Jumps};
 ghost use Rattle.opcode.specs.Rows.{roleOf, rowOf};
 ghost use Rattle.exam.specs.View.{targets, codeAt, rlensAt};
@@ -242,13 +244,13 @@ pub fn move_in(
     o: usize,
     choice: Choice,
 ) -> Moved
-    requires { ⌜ r * 19 + 19 ≤ length (now records) ⌝ }
-    requires { ⌜ table.word 19 (now records) r 6 + table.word 19 (now records) r 5 ≤ length (now file) ⌝ }
-    requires { ⌜ (table.word 19 (now records) r 7 + table.word 19 (now records) r 8) * 4 ≤ length (now handlers) ⌝ }
+    requires { ⌜ r * recordWidth + recordWidth ≤ length (now records) ⌝ }
+    requires { ⌜ table.recordWord (now records) r 6 + table.recordWord (now records) r 5 ≤ length (now file) ⌝ }
+    requires { ⌜ (table.recordWord (now records) r 7 + table.recordWord (now records) r 8) * 4 ≤ length (now handlers) ⌝ }
     requires { ⌜ Stands (codeAt (now file) (now records) r) o ⌝ }
     ensures { λ m. ⌜ moveOf m ≡ format.move (partAt (now (file .entry)) (now (records .entry)) (now (handlers .entry)) r) o (choiceOf choice) ⌝ }
 {
-    let row = r * 19;
+    let row = r * RECORD_WIDTH;
     let place = word(records, row + 6);
     let end = place + word(records, row + 5);
     let first = word(records, row + 7);
@@ -258,7 +260,7 @@ pub fn move_in(
 
 // Child `k` of record `r`: the next child starts where the previous one's subtree ends. `trees` are the subtrees still to pass.
 pub fn child_at(records: &[u32], n: usize, r: usize, k: usize) -> usize
-    requires { ⌜ (n ≤ 1024) × (n * 19 ≤ length (now records)) × (r < n) × (k < 4294967296) ⌝ }
+    requires { ⌜ (n ≤ 1024) × (n * recordWidth ≤ length (now records)) × (r < n) × (k < 4294967296) ⌝ }
     ensures { λ c. ⌜ c ≡ childOf (rlensAt (now (records .entry)) n) r k ⌝ }
 {
     let mut i = r + 1;
@@ -267,7 +269,7 @@ pub fn child_at(records: &[u32], n: usize, r: usize, k: usize) -> usize
         if trees == 0 {
             return i;
         }
-        let rlen = word(records, i * 19 + 3);
+        let rlen = word(records, i * RECORD_WIDTH + 3);
         trees = trees - 1 + rlen;
         i += 1;
     }

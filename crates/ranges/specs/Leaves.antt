@@ -5,8 +5,8 @@ use mathlib.Core.Bool.{cond, _&&_}
 use mathlib.Core.List.{List}
 use lib.Dec.{ltb}
 use Rattle.format.specs.Bytes.{Answer, ok, refused, bind}
-use Rattle.format.specs.Rows.{Range}
-use Rattle.format.specs.Lookup.{word, rangeAt, hasRow}
+use Rattle.format.specs.Rows.{Range, recordWidth}
+use Rattle.format.specs.Lookup.{recordWord, rangeAt, hasRow}
 use Rattle.ranges.specs.declared.Words.{Words}
 use Rattle.ranges.specs.declared.Words.the-variants as words
 use Rattle.ranges.specs.declared.Row.{Row}
@@ -26,7 +26,7 @@ rowOf row.Missing = refused 22
 
 -- words k and k + 1 of a record's row
 unfoldable pub recordWords : List ℕ → ℕ → ℕ → Answer Range
-recordWords t r k = cond (hasRow 19 t r && ltb 0 (word 19 t r 0)) (ok (rangeAt t r k)) (refused 22)
+recordWords t r k = cond (hasRow recordWidth t r && ltb 0 (recordWord t r 0)) (ok (rangeAt t r k)) (refused 22)
 
 -- which of a table's rows index i of a range is, and of the range that words k and k + 1 of a record's row are
 unfoldable pub rowAmong : ℕ → Range → ℕ → Answer ℕ

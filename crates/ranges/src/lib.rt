@@ -1,4 +1,5 @@
 // What lookups share: the words of a record's row, a row of a range, bytes of the file.
+use format::RECORD_WIDTH;
 ghost use mathlib.Core.Path.{_≡_};
 ghost use mathlib.Core.Bool.{_||_};
 ghost use Prim.Native.Nat.{_+_, _<_};
@@ -32,10 +33,10 @@ pub fn record_words(records: &[u32], rec: u32, k: usize) -> Words
     ensures { λ r. ⌜ wordsOf r ≡ recordWords (now (records .entry)) rec k ⌝ }
 {
     let row = rec as usize;
-    if records.len() / 19 <= row {
+    if records.len() / RECORD_WIDTH <= row {
         return Words::Missing;
     }
-    let start = row * 19;
+    let start = row * RECORD_WIDTH;
     if records[start] == 0 {
         return Words::Missing;
     }

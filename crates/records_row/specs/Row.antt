@@ -3,7 +3,7 @@
 use Prim.Native.Nat.{ℕ}
 use mathlib.Core.Bool.{cond}
 use mathlib.Core.List.{List, [], _∷_}
-use Rattle.format.specs.Rows.{RecordRow}
+use Rattle.format.specs.Rows.{RecordRow, recordWidth}
 use Rattle.format.specs.Lookup.{recordRowAt, hasRow}
 use Rattle.records_row.specs.declared.Record.{Record}
 
@@ -30,6 +30,8 @@ structOf r =
       nfiles = r .files .number;
       lines = r .lines .first;
       nlines = r .lines .number;
+      depth = r .depth;
+      parent = r .parent;
     }
 
 -- the words of a struct, in the order of a row's
@@ -42,6 +44,7 @@ structWords r =
     ∷ r .names ∷ r .nnames
     ∷ r .files ∷ r .nfiles
     ∷ r .lines ∷ r .nlines
+    ∷ r .depth ∷ r .parent
     ∷ []
 
 unfoldable pub zeroRow : Record
@@ -49,4 +52,4 @@ zeroRow = structOf (recordRowAt [] 0)
 
 -- row i of a record table, and zeros past its last whole row
 unfoldable pub rowAt : List ℕ → ℕ → Record
-rowAt t i = cond (hasRow 19 t i) (structOf (recordRowAt t i)) zeroRow
+rowAt t i = cond (hasRow recordWidth t i) (structOf (recordRowAt t i)) zeroRow

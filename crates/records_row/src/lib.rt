@@ -1,8 +1,10 @@
 // A record's row as a struct, and what the words of a record table say of one.
+use format::RECORD_WIDTH;
 ghost use mathlib.Core.Path.{_≡_};
 ghost use Rattle.records_row.specs.Row.{zeroRow, rowAt};
 
 // A record's row, its words in their order. A kind's name is the first of its rows, and n before the name their number.
+// Depth is how many records lie above it in the tree, and parent the record right above, 65535 where there is none.
 #[repr(C)]
 pub struct Record {
     pub size: u32,
@@ -24,6 +26,8 @@ pub struct Record {
     pub nfiles: u32,
     pub lines: u32,
     pub nlines: u32,
+    pub depth: u32,
+    pub parent: u32,
 }
 
 // A row of zeros.
@@ -50,6 +54,8 @@ pub fn zero_row() -> Record
         nfiles: 0,
         lines: 0,
         nlines: 0,
+        depth: 0,
+        parent: 0,
     }
 }
 
@@ -57,10 +63,10 @@ pub fn zero_row() -> Record
 pub fn row_at(words: &[u32], i: usize) -> Record
     ensures { λ r. ⌜ r ≡ rowAt (now (words .entry)) i ⌝ }
 {
-    if words.len() / 19 <= i {
+    if words.len() / RECORD_WIDTH <= i {
         return zero_row();
     }
-    let k = i * 19;
+    let k = i * RECORD_WIDTH;
     Record {
         size: words[k],
         nlocals: words[k + 1],
@@ -81,5 +87,7 @@ pub fn row_at(words: &[u32], i: usize) -> Record
         nfiles: words[k + 16],
         lines: words[k + 17],
         nlines: words[k + 18],
+        depth: words[k + 19],
+        parent: words[k + 20],
     }
 }

@@ -1,6 +1,7 @@
 // Replays stored answers of load, examination and follow, the papers' samples first. Answers are compared as the structs of the C boundary.
 use boundary::BlotheathFollowed;
 use boundary::BlotheathLoaded;
+use format::RECORD_WIDTH;
 use libc::STDIN_FILENO;
 use libc::STDOUT_FILENO;
 use stored::State;
@@ -14,6 +15,9 @@ use stored::least;
 use stored::next_group;
 use stored::word;
 ghost use Prim.Native.Nat.{_≤_};
+
+// The most words of a lent record table: those of the 1,024 rows that a load may fill, and of three rows more.
+const RECORD_WORDS: usize = (1024 + 3) * RECORD_WIDTH;
 
 // What a load, an examination or a follow answers, and the sum of its tables afterwards.
 struct Outcome {
@@ -221,7 +225,7 @@ fn call_sized(
     frame_words: usize,
     choices: &[u8],
 ) -> Outcome {
-    let mut records = [3735928559u32; 20000];
+    let mut records = [3735928559u32; RECORD_WORDS];
     let mut handlers = [3735928559u32; 8192];
     let mut pool = [3735928559u32; 8192];
     let mut symbols = [3735928559u32; 8192];
@@ -231,7 +235,7 @@ fn call_sized(
     let mut files = [3735928559u32; 8192];
     let mut lines = [3735928559u32; 8192];
     let mut frames = [3735928559u32; 2048];
-    let a = size(all, at, 20000);
+    let a = size(all, at, RECORD_WORDS);
     let b = size(all, ahead(at, 4), 8192);
     let c = size(all, ahead(at, 8), 8192);
     let d = size(all, ahead(at, 12), 8192);

@@ -11,6 +11,7 @@ use borrow.Author.Tests.{le-leb}
 use Rattle.format.specs.File.{Content}
 use Rattle.format.proofs.Table.{both}
 use Rattle.format.specs.Load.{Nine, tablesOf, used, fits}
+use Rattle.format.specs.Rows.{recordWidth}
 use Rattle.rows.specs.Table.{rowCount}
 use Rattle.bounds.proofs.Bounds.{Bounds}
 use Rattle.bounds.proofs.Grows.{Less}
@@ -18,7 +19,7 @@ use Rattle.bounds.proofs.Grows.{Less}
 -- the tables have room for what was read
 pub record Room (limit : ℕ) (m : Nine) (c : Content) : Type 0 where
   pub limited : length (tablesOf c .records) ≤ limit
-  pub records : length (tablesOf c .records) ≤ rowCount (m .records) 19
+  pub records : length (tablesOf c .records) ≤ rowCount (m .records) recordWidth
   pub handlers : length (tablesOf c .handlers) ≤ rowCount (m .handlers) 4
   pub pool : length (tablesOf c .pool) ≤ rowCount (m .pool) 3
   pub symbols : length (tablesOf c .symbols) ≤ rowCount (m .symbols) 2
@@ -50,7 +51,7 @@ module _ (limit : ℕ) (m : Nine) (c : Content) where
   fits-true r =
       rw (
         le-leb (length (tablesOf c .records)) limit (r .limited),
-        le-leb (length (tablesOf c .records)) (m .records / 19) (omega (arith, r .records)),
+        le-leb (length (tablesOf c .records)) (m .records / recordWidth) (omega (arith, r .records)),
         le-leb (length (tablesOf c .handlers)) (m .handlers / 4) (omega (arith, r .handlers)),
         le-leb (length (tablesOf c .pool)) (m .pool / 3) (omega (arith, r .pool)),
         le-leb (length (tablesOf c .symbols)) (m .symbols / 2) (omega (arith, r .symbols)),
@@ -67,7 +68,7 @@ module _ (limit : ℕ) (m : Nine) (c : Content) where
   fits-room small b e =
       let t : T (fits limit m (used (tablesOf c))) = subst T (sym e) tt in
       let n : length (tablesOf c .records) ≤ limit = leb→le _ _ (search both depth 12) in
-      let records-fit : length (tablesOf c .records) ≤ m .records / 19 = leb→le _ _ (search both depth 12) in
+      let records-fit : length (tablesOf c .records) ≤ m .records / recordWidth = leb→le _ _ (search both depth 12) in
       let handlers-fit : length (tablesOf c .handlers) ≤ m .handlers / 4 = leb→le _ _ (search both depth 12) in
       let pool-fit : length (tablesOf c .pool) ≤ m .pool / 3 = leb→le _ _ (search both depth 12) in
       let symbols-fit : length (tablesOf c .symbols) ≤ m .symbols / 2 = leb→le _ _ (search both depth 12) in

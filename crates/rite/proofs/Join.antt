@@ -1,8 +1,8 @@
--- The sections over nine tables agree with the reading that knows no table, and so does the load.
+-- The sections over nine tables agree with the reading that knows no table, and so does the load, which puts depths and parents in at its end.
 -- Assumes nothing.
-use Prim.Native.Nat.{ℕ, zero, suc, _+_, _≤_, _<_}
+use Prim.Native.Nat.{ℕ, zero, suc, _+_, _*_, _≤_, _<_}
 use native.Mathlib.Omega.{arith}
-use mathlib.Core.Path.{_≡_, refl, _∙_}
+use mathlib.Core.Path.{_≡_, refl, sym, ap, subst, _∙_}
 use mathlib.Core.Bool.{Bool, true, false, cond}
 use mathlib.Core.List.{List, []}
 use mathlib.Core.Option.{Option, none, some}
@@ -12,12 +12,13 @@ use borrow.Author.Tests.{le-ltb}
 use Rattle.format.specs.Bytes.{Answer, ok, refused, onAnswer, has}
 use Rattle.format.specs.Headers as mark
 use Rattle.format.specs.Reading.{Part, part}
-use Rattle.format.specs.Rows.{NameRow, recordWords}
+use Rattle.format.specs.Rows.{NameRow, recordWidth, recordWords}
 use Rattle.format.specs.Irep.{Rec, irepSection}
 use Rattle.format.specs.Lvar.{Lvar, lvarSection}
 use Rattle.format.specs.Debug.{File, Debug, debugSection}
 use Rattle.format.specs.File.{Content, content, nothing, isMark, once, afterIrep, endSection, sectionAt, sections, fileRefusal, fileReading}
-use Rattle.format.specs.Load.{Nine, Words, tablesOf, wordsOf, recordsOf, namesOf, filesOf, joined, start, used, visitsOf, counts, fits, ending, loading, load}
+use Rattle.format.specs.Tree.{nodes}
+use Rattle.format.specs.Load.{Nine, Words, Tables, recordRows, tablesOf, wordsOf, recordsOf, namesOf, filesOf, joined, start, used, visitsOf, counts, fits, ending, loading, load}
 use Rattle.rows.specs.Table.{rowCount}
 use Rattle.rows.proofs.Join.{Ran, length-table}
 use Rattle.irep.specs.Record.{irepOf}
@@ -29,8 +30,10 @@ use Rattle.lvar.proofs.Join.{lvar-ran}
 use Rattle.debug.proofs.Join as debug
 use Rattle.debug.proofs.Join.{debug-ran}
 use Rattle.debug.specs.Section.{debugOf}
+use Rattle.rite_parents.specs.Nodes.{rlensIn, nodesIn}
+use Rattle.rite_parents.proofs.Laid.{parents-laid}
 use Rattle.bounds.proofs.Bounds.{reading-bounds, visits-few}
-use Rattle.format.proofs.Places.{rows-length, fileRows-length}
+use Rattle.format.proofs.Places.{rows-length, records-length, fileRows-length}
 use Rattle.bounds.proofs.Grows.{Ordered, Less, same, Grown, section-grows, sections-grow}
 use Rattle.rite.proofs.Fits.{Room, room-less, fits-true, fits-false}
 use Rattle.sections.specs.declared.Used.{Used}
@@ -39,10 +42,31 @@ use Rattle.sections.specs.declared.Section.the-variants as section
 use Rattle.marks.specs.declared.Mark.the-variants as mark-is
 use Rattle.file.specs.declared.Loaded.{Loaded}
 use Rattle.file.specs.declared.Loaded.the-variants as loaded-is
-use Rattle.rite.specs.Answers.{loadedOf}
+use Rattle.rite.specs.Answers.{words, loadedOf}
 use Rattle.marks.specs.Marks.{markOf}
 use Rattle.sections.specs.Sections.{begun, irepOutOf, lvarOutOf, dbgOutOf, endOutOf}
 use Rattle.file.specs.File.{Out, out, byMark, FileOut, loaded, sectionOut, sectionsOut, fileOut}
+
+-- the rows as the sections leave them: no record has a parent yet
+abbrev unlinked : Content → Tables
+unlinked c =
+    let t = tablesOf c in
+    record {
+      records = recordRows start (recordsOf c) (namesOf c) (filesOf c) [];
+      handlers = t .handlers;
+      pool = t .pool;
+      symbols = t .symbols;
+      strings = t .strings;
+      names = t .names;
+      fileNames = t .fileNames;
+      files = t .files;
+      lines = t .lines;
+    }
+
+-- nine tables whose first n record rows say depth and parent
+abbrev pub linked : ℕ → Words → Words
+linked n t =
+    words (nodesIn (t .records) 0 (nodes (rlensIn (t .records) 0 n))) (t .handlers) (t .pool) (t .symbols) (t .strings) (t .names) (t .fileNames) (t .files) (t .lines)
 
 -- how far reading has come, by what was read
 abbrev isSome : {A : Type 0} → Option A → Bool
@@ -71,7 +95,7 @@ progressOf c = record { irep = isSome (c .irep); lvar = isSome (c .lvar); dbg = 
 -- one section over tables that hold what was read before it
 module _ (limit : ℕ) (m : Nine) (f : List ℕ) (at : ℕ) where
   abbrev pub W : Content → Words
-  W c = wordsOf m (tablesOf c)
+  W c = wordsOf m (unlinked c)
 
   -- a section's answer goes with its reading
   abbrev pub SectionRan : Part Content → Out → Type 0
@@ -87,9 +111,12 @@ module _ (limit : ℕ) (m : Nine) (f : List ℕ) (at : ℕ) where
     where
       room : irep.Room limit m (held (irepSection (drop at f) at .rows)) → Room limit m (content (some (irepSection (drop at f) at .rows)) none none)
       room x =
+          let rs = irepSection (drop at f) at .rows in
+          let e = records-length (content (some rs) none none) in
+          let e′ = rows-length rs start [] [] [] in
           record {
-            limited = x .within;
-            records = x .records;
+            limited = omega (arith, e, e′, x .within);
+            records = omega (arith, e, e′, x .records);
             handlers = x .handlers;
             pool = x .pool;
             symbols = x .symbols;
@@ -103,18 +130,27 @@ module _ (limit : ℕ) (m : Nine) (f : List ℕ) (at : ℕ) where
       by-run : IrepRan limit m (irepSection (drop at f) at) (irepOf (drop at f) at limit (lentOf m (held [])))
           → SectionRan (let s = irepSection (drop at f) at in part (content (some (s .rows)) none none) (s .end))
           (byMark f limit at (W nothing) (progressOf nothing) mark-is.Irep)
-      by-run (Ran.went size e x d) = rw (d, rows-length (irepSection (drop at f) at .rows) start [] []) (Ran.went size e (room x) refl)
+      by-run (Ran.went size e x d) = rw (d, rows-length (irepSection (drop at f) at .rows) start [] [] []) (Ran.went size e (room x) refl)
       by-run (Ran.stop k e x d) = rw d (Ran.stop k e (room x) refl)
-      by-run (Ran.full x d) = rw d (Ran.full (λ z. x (record { within = z .limited; records = z .records; handlers = z .handlers; pool = z .pool; symbols = z .symbols })) refl)
+      by-run (Ran.full x d) =
+          let rs = irepSection (drop at f) at .rows in
+          let e = records-length (content (some rs) none none) in
+          let e′ = rows-length rs start [] [] [] in
+          rw d (Ran.full (λ z. x (record { within = omega (arith, e, e′, z .limited); records = omega (arith, e, e′, z .records); handlers = z .handlers; pool = z .pool; symbols = z .symbols })) refl)
   irep-section none none (some d) o r = absurd o
   irep-section none (some l) none o r = absurd o
   irep-section none (some l) (some d) o r = absurd o
 
   -- the records' rows are in their table
-  counted : (c : Content) → Room limit m c → ltb (rowCount (length (W c .records)) 19) (length (recordsOf c)) ≡ false
+  records-table : (c : Content) → Room limit m c → length (W c .records) ≡ m .records
+  records-table c r =
+      let e = rows-length (recordsOf c) start (namesOf c) (filesOf c) [] in
+      length-table recordWords recordWidth (λ _. refl) (omega arith) (m .records) (unlinked c .records) (omega (arith, e, records-length c, r .records))
+
+  counted : (c : Content) → Room limit m c → ltb (rowCount (length (W c .records)) recordWidth) (length (recordsOf c)) ≡ false
   counted c r =
-      let e = rows-length (recordsOf c) start (namesOf c) (filesOf c) in
-      rw (length-table recordWords 19 (λ _. refl) (omega arith) (m .records) (tablesOf c .records) (r .records)) (le-ltb (rowCount (m .records) 19) (length (recordsOf c)) (omega (arith, r .records)))
+      let low : length (recordsOf c) ≤ rowCount (m .records) recordWidth = omega (arith, records-length c, r .records) in
+      rw (records-table c r) (le-ltb (rowCount (m .records) recordWidth) (length (recordsOf c)) low)
 
   -- LVAR behind IREP
   module _ (rs : List Rec) (d : Option Debug) (r : Room limit m (content (some rs) none d)) where
@@ -126,8 +162,8 @@ module _ (limit : ℕ) (m : Nine) (f : List ℕ) (at : ℕ) where
 
     lvar-room : lvar.Room m (drop at f) at rs fss (P .it) → Room limit m (content (some rs) (some (P .it)) d)
     lvar-room x =
-        let e = rows-length rs start [] fss in
-        let e′ = rows-length rs start (P .it .names) fss in
+        let e = records-length (content (some rs) none d) in
+        let e′ = records-length (content (some rs) (some (P .it)) d) in
         record {
           limited = omega (arith, r .limited);
           records = omega (arith, r .records);
@@ -166,8 +202,8 @@ module _ (limit : ℕ) (m : Nine) (f : List ℕ) (at : ℕ) where
 
     dbg-room : debug.AllRoom m at rs nss (Q .it) → Room limit m (content (some rs) l (some (Q .it)))
     dbg-room x =
-        let e = rows-length rs start nss [] in
-        let e′ = rows-length rs start nss (Q .it .files) in
+        let e = records-length (content (some rs) l none) in
+        let e′ = records-length (content (some rs) l (some (Q .it))) in
         let g = fileRows-length 0 (joined (Q .it .files)) in
         record {
           limited = omega (arith, r .limited);
@@ -226,9 +262,17 @@ abbrev pub onLoaded : {A : Type 0} → Loaded → (Used → A) → (ℕ → A) �
 onLoaded (loaded-is.Rows u) k e = k u
 onLoaded (loaded-is.Refused n) k e = e n
 
+-- a load that went on is not refused
+abbrev WentOn : Loaded → Type 0
+WentOn (loaded-is.Rows u) = Unit {0}
+WentOn (loaded-is.Refused n) = ⊥
+
+rows-refused : {u : Used} {n : ℕ} → loaded-is.Rows u ≡ loaded-is.Refused n → ⊥
+rows-refused e = subst WentOn e tt
+
 module _ (limit : ℕ) (m : Nine) (f : List ℕ) where
   abbrev held-words : Content → Words
-  held-words c = wordsOf m (tablesOf c)
+  held-words c = wordsOf m (unlinked c)
 
   abbrev FileRan : Part Content → FileOut → Type 0
   FileRan p o =
@@ -292,6 +336,11 @@ module _ (limit : ℕ) (m : Nine) (f : List ℕ) where
       by-tests true = sections-ran (length f) nothing 20 tt nothing-room
       by-tests false = Ran.stop (fileRefusal f) refl nothing-room refl
 
+-- the rows of n records are in their table, and they are few
+pub record Linkable (n : ℕ) (t : Words) : Type 0 where
+  pub held : n * recordWidth ≤ length (t .records)
+  pub few : n ≤ 1024
+
 -- THE JOIN: what the sections over zeroed tables come to is the load of the file's reading
 module _ (m : Nine) (f : List ℕ) (bytes : (i : ℕ) → getD f i 0 < 256) where
   abbrev o : FileOut
@@ -314,14 +363,39 @@ module _ (m : Nine) (f : List ℕ) (bytes : (i : ℕ) → getD f i 0 < 256) wher
   unfolding load loading ending
   is-full t = rw t
 
-  pub load-is : load f m ≡ onLoaded (o .ans) (λ u. loadedOf (loaded-is.Rows u) (o .tables)) (λ e. loadedOf (loaded-is.Refused e) (wordsOf m (tablesOf nothing)))
+  abbrev Loads : Type 0
+  Loads = load f m ≡ onLoaded (o .ans) (λ u. loadedOf (loaded-is.Rows u) (linked (u .records) (o .tables))) (λ e. loadedOf (loaded-is.Refused e) (wordsOf m (tablesOf nothing)))
+
+  pub load-is : Loads
   load-is = by-run (file-ran 1024 m f)
     where
-      by-run : FileRan 1024 m f p o → load f m ≡ onLoaded (o .ans) (λ u. loadedOf (loaded-is.Rows u) (o .tables)) (λ e. loadedOf (loaded-is.Refused e) (wordsOf m (tablesOf nothing)))
+      by-run : FileRan 1024 m f p o → Loads
       by-run (Ran.went at e x d) =
-          let rows = rows-length (recordsOf (p .it)) start (namesOf (p .it)) (filesOf (p .it)) in
-          let few : length (recordsOf (p .it)) ≤ 1024 = omega (arith, rows, x .limited) in
-          let word : inWord (visitsOf (p .it)) ≡ visitsOf (p .it) = omega (arith, visits-few f bytes few) in
-          rw d (is-loaded at e (fits-true 1024 m (p .it) x) ∙ rw (rows, fileRows-length 0 (joined (filesOf (p .it))), word))
+          let c = p .it in
+          let rows = records-length c in
+          let few : length (recordsOf c) ≤ 1024 = omega (arith, rows, x .limited) in
+          let word : inWord (visitsOf c) ≡ visitsOf c = omega (arith, visits-few f bytes few) in
+          let link = parents-laid (m .records) (recordsOf c) (namesOf c) (filesOf c) in
+          rw d (is-loaded at e (fits-true 1024 m c x) ∙ rw (rows, fileRows-length 0 (joined (filesOf c)), word, link))
       by-run (Ran.stop k e x d) = rw d (is-refused k e (fits-true 1024 m (p .it) x))
       by-run (Ran.full x d) = rw d (is-full (fits-false 1024 m (p .it) (omega arith) (reading-bounds f bytes) x))
+
+  -- of what the sections left
+  abbrev Left : FileOut → Type 0
+  Left z = elim (z .ans) [ loaded-is.Rows v ↦ Linkable (v .records) (z .tables) | loaded-is.Refused n ↦ Unit {0} ]
+
+  -- so it is where a load goes on
+  pub load-linkable : (u : Used) (t : Words) → o ≡ loaded (loaded-is.Rows u) t → Linkable (u .records) t
+  load-linkable u t e = by-run (file-ran 1024 m f)
+    where
+      by-run : FileRan 1024 m f p o → Linkable (u .records) t
+      by-run (Ran.went at q x d) =
+          let c = p .it in
+          let same : loaded (loaded-is.Rows (usedIn c)) (wordsOf m (unlinked c)) ≡ loaded (loaded-is.Rows u) t = sym d ∙ e in
+          subst Left same
+          (record {
+            held = rw (records-table 1024 m f at c x) (omega (arith, records-length c, x .records));
+            few = omega (arith, records-length c, x .limited);
+          })
+      by-run (Ran.stop k q x d) = absurd (rows-refused (ap (λ (z : FileOut). z .ans) (sym e) ∙ d))
+      by-run (Ran.full x d) = absurd (rows-refused (ap (λ (z : FileOut). z .ans) (sym e) ∙ d))

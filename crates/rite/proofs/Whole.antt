@@ -14,7 +14,7 @@ use Rattle.file.specs.declared.Loaded.the-variants as loaded-is
 use Rattle.file.specs.File.{loaded, fileOut}
 use Rattle.rite.specs.Answers.{words, sizes, Zeros, loadedOf}
 use Rattle.file.proofs.Laws.{Same}
-use Rattle.rite.proofs.Join.{load-is}
+use Rattle.rite.proofs.Join.{linked, Linkable, load-is, load-linkable}
 
 -- a table of no rows is zeros
 blank : {R : Type 0} (ws : R → List ℕ) (n : ℕ) → tableOf ws n [] ≡ replicate n 0
@@ -28,10 +28,16 @@ pub same-sizes : (t t′ : Words) → Same t t′ → sizes t ≡ sizes t′
 same-sizes t t′ s = rw (s .records, s .handlers, s .pool, s .symbols, s .strings, s .names, s .fileNames, s .files, s .lines)
 
 module _ (f : List ℕ) (bytes : (i : ℕ) → getD f i 0 < 256) (t t₁ t₂ : Words) (z : t₁ ≡ wordsOf (sizes t) (tablesOf nothing)) (r : Loaded) (e : loaded r t₂ ≡ fileOut f 1024 t₁) where
-  pub load-went : (u : Used) → r ≡ loaded-is.Rows u → loadedOf (loaded-is.Rows u) t₂ ≡ load f (sizes t)
-  load-went u q =
-      let o : fileOut f 1024 (wordsOf (sizes t) (tablesOf nothing)) ≡ loaded (loaded-is.Rows u) t₂ = ap (fileOut f 1024) (sym z) ∙ sym e ∙ ap (λ x. loaded x t₂) q in
-      sym (load-is (sizes t) f bytes ∙ rw o)
+  module _ (u : Used) (q : r ≡ loaded-is.Rows u) where
+    went : fileOut f 1024 (wordsOf (sizes t) (tablesOf nothing)) ≡ loaded (loaded-is.Rows u) t₂
+    went = ap (fileOut f 1024) (sym z) ∙ sym e ∙ ap (λ x. loaded x t₂) q
+
+    -- the records' depths and parents can be put in, and then the load is done
+    pub load-holds : Linkable (u .records) t₂
+    load-holds = load-linkable (sizes t) f bytes u t₂ went
+
+    pub load-went : loadedOf (loaded-is.Rows u) (linked (u .records) t₂) ≡ load f (sizes t)
+    load-went = sym (load-is (sizes t) f bytes ∙ rw went)
 
   pub load-refused : (k : ℕ) → r ≡ loaded-is.Refused k → (t₃ : Words) → t₃ ≡ wordsOf (sizes t) (tablesOf nothing) → loadedOf (loaded-is.Refused k) t₃ ≡ load f (sizes t)
   load-refused k q t₃ y =

@@ -1,6 +1,8 @@
-// Loading a file into nine lent tables that are cleared first, and cleared again after the refusal of a section.
+// Loading a file into nine lent tables that are cleared first, and cleared again after the refusal of a section; where none is refused, each
+// record's row is given its depth and parent.
 use file::read_sections;
 use marks::file_refusal;
+use rite_parents::link_parents;
 use tables::clear_all;
 ghost use mathlib.Core.Path.{_≡_};
 ghost use Rattle.format.specs.Load.{load};
@@ -54,7 +56,10 @@ pub fn load(
         files,
         lines,
     ) {
-        Loaded::Rows(u) => Loaded::Rows(u),
+        Loaded::Rows(u) => {
+            link_parents(records, u.records as usize);
+            Loaded::Rows(u)
+        }
         Loaded::Refused(e) => {
             clear_all(
                 records,

@@ -10,9 +10,10 @@ use Rattle.format.specs.Bytes.{ok, refused}
 use Rattle.format.specs.Insn.{table, row, operands, opcode, rest}
 use Rattle.format.specs.Registers.{comments, form}
 use Rattle.format.specs.Line.{rowsFrom, halve, lineAt, rising}
-use Rattle.format.specs.Tree.{layout, span, childOf}
+use Rattle.format.specs.Tree.{layout, span, childOf, noParent}
 use Rattle.format.specs.Pattern.{Pattern, reach}
-use Rattle.format.specs.Exam.{stray, readable, below, allBelow, operandsBelow, rangeBelow, bounded, follows, firstAt, firstOf, exam16, exam1718, exam19, exam20, examineRecord, examineAll, examinePattern}
+use Rattle.format.specs.Exam.{stray, readable, below, allBelow, operandsBelow, rangeBelow, bounded, follows, firstAt, firstOf, exam16, exam1718, exam19, exam20}
+use Rattle.format.specs.Exam.{examineRecord, examineAll, examinePattern}
 use Rattle.format.specs.Run.{frame, childOperand, move, oneStep, runFrom, choicesFrom, finished, stands, standing, laidFrames, frameTable}
 use Rattle.exam.specs.View.{patternAt, RowFits, Ready}
 use Rattle.run.specs.Follow.{out, followOut}
@@ -22,10 +23,10 @@ abbrev bytes : List ℕ
 bytes = 97 ∷ 1 ∷ 0 ∷ 61 ∷ 1 ∷ 61 ∷ 1 ∷ []
 
 abbrev record-0 : List ℕ
-record-0 = 24 ∷ 1 ∷ 2 ∷ 1 ∷ 1 ∷ 5 ∷ 0 ∷ 0 ∷ 1 ∷ (replicate 9 0 ++ 1 ∷ [])
+record-0 = 24 ∷ 1 ∷ 2 ∷ 1 ∷ 1 ∷ 5 ∷ 0 ∷ 0 ∷ 1 ∷ (replicate 9 0 ++ 1 ∷ 0 ∷ noParent ∷ [])
 
 abbrev record-1 : List ℕ
-record-1 = 24 ∷ 1 ∷ 2 ∷ 0 ∷ 0 ∷ 2 ∷ 5 ∷ replicate 12 0
+record-1 = 24 ∷ 1 ∷ 2 ∷ 0 ∷ 0 ∷ 2 ∷ 5 ∷ (replicate 12 0 ++ 1 ∷ 0 ∷ [])
 
 abbrev records : List ℕ
 records = record-0 ++ record-1

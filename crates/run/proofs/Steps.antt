@@ -10,7 +10,7 @@ use lib.ListN.{length, getD, set, drop, length-set, length-take, length-drop}
 use lib.Seq.{set-getD}
 use Rattle.format.specs.Bytes.{ok}
 use Rattle.format.specs.Line.{lineAt}
-use Rattle.format.specs.Lookup.{word}
+use Rattle.format.specs.Lookup.{recordWord}
 use Rattle.format.specs.Tree.{childOf}
 use Rattle.format.specs.Pattern.{Record, Pattern, rlens, begins}
 use Rattle.format.specs.Run.{Choice, Frame, frame, Move, gone, to, into, move, applied, oneStep, standing, stands, finished, frameTable}
@@ -83,7 +83,7 @@ module _ {f recs hs ls t : List ℕ} {n d : ℕ}
     pub top-stands : Stands (codeAt f recs r) o
     top-stands = record { starts = starts; paired = good-record .paired o starts; reads = good-record .reads o starts; goes = good-record .go o starts }
 
-    pub standing-top : {a : ℕ} {x : Option ℕ} → a ≡ r → x ≡ lineAt (entries ls (word 19 recs r 17) (word 19 recs r 18)) o
+    pub standing-top : {a : ℕ} {x : Option ℕ} → a ≡ r → x ≡ lineAt (entries ls (recordWord recs r 17) (recordWord recs r 18)) o
         → ok (stands (frame a o) x d) ≡ ok (standing p (framesOf t d))
     unfolding standing
     standing-top ea e =
@@ -128,7 +128,7 @@ module _ {f recs hs ls t : List ℕ} {n d : ℕ}
 
     small : (x : ℕ) → T (begins (codeAt f recs r) x) → x < 65536
     small x b =
-        omega (arith, reach-inside (codeAt f recs r) 0 x b, length-take (word 19 recs r 5) (drop (word 19 recs r 6) f), length-drop (word 19 recs r 6) f, pre .0 .fits .small)
+        omega (arith, reach-inside (codeAt f recs r) 0 x b, length-take (recordWord recs r 5) (drop (recordWord recs r 6) f), length-drop (recordWord recs r 6) f, pre .0 .fits .small)
 
     -- u: the table after the code put its frames
     pub held-gone : {u : List ℕ} (ch : Choice) → gone ≡ move (partAt f recs hs r) o ch → u ≡ set (set t ((d - 1) * 2) 0) ((d - 1) * 2 + 1) 0
@@ -154,7 +154,7 @@ module _ {f recs hs ls t : List ℕ} {n d : ℕ}
 
     -- k, x: the child's number and the offset behind the instruction
     module _ (ch : Choice) (k x : ℕ) (e : into k x ≡ move (partAt f recs hs r) o ch) where
-      pub into-small : (x < 65536) × (k < word 19 recs r 3)
+      pub into-small : (x < 65536) × (k < recordWord recs r 3)
       into-small = let s = safe ch (into k x) e in (small x (s .1), s .0)
 
       -- the child is a record, and there is a row for it

@@ -9,7 +9,7 @@ use mathlib.Core.List.{List}
 use lib.ListN.{length, getD, take, drop, length-drop}
 use lib.Seq.{length-take-le, getD-take, getD-drop}
 use Rattle.format.specs.Line.{rowsFrom, lineRowAt, mapOf, lineAt}
-use Rattle.format.specs.Lookup.{word}
+use Rattle.format.specs.Lookup.{recordWord}
 use Rattle.format.specs.Pattern.{blank, recAt}
 use Rattle.format.proofs.RowsFrom.{rowsFrom-length, rowsFrom-at}
 use Rattle.exam.specs.View.{entries, recordAt, patternAt}
@@ -51,7 +51,7 @@ map-is ls i n h =
         rw (zero-add, cell (j * 2) (omega arith), cell (j * 2 + 1) (omega arith), a, b)
 
 -- first, number: the words that the code read of record row r; x: the line that it found in the part
-pub line-is : (recs ls : List ℕ) (r o : ℕ) {first number : ℕ} {x : Option ℕ} → (word 19 recs r 17 + word 19 recs r 18) * 2 ≤ length ls
-    → first ≡ word 19 recs r 17 → number ≡ word 19 recs r 18 → x ≡ lineAt (mapOf (take ((first + number) * 2 - first * 2) (drop (first * 2) ls))) o
-    → x ≡ lineAt (entries ls (word 19 recs r 17) (word 19 recs r 18)) o
-line-is recs ls r o {first} {number} h ef en q = q ∙ rw (ef, en, map-is ls (word 19 recs r 17) (word 19 recs r 18) h)
+pub line-is : (recs ls : List ℕ) (r o : ℕ) {first number : ℕ} {x : Option ℕ} → (recordWord recs r 17 + recordWord recs r 18) * 2 ≤ length ls
+    → first ≡ recordWord recs r 17 → number ≡ recordWord recs r 18 → x ≡ lineAt (mapOf (take ((first + number) * 2 - first * 2) (drop (first * 2) ls))) o
+    → x ≡ lineAt (entries ls (recordWord recs r 17) (recordWord recs r 18)) o
+line-is recs ls r o {first} {number} h ef en q = q ∙ rw (ef, en, map-is ls (recordWord recs r 17) (recordWord recs r 18) h)

@@ -1,5 +1,6 @@
 // The run of an examined pattern along choice bytes, with its frames in a lent table.
 use exam::word;
+use format::RECORD_WIDTH;
 use line::LineAt;
 use line::Pos;
 use line::line_at;
@@ -17,6 +18,7 @@ ghost use Rattle.format.specs.Line.{lineAt};
 ghost use Rattle.format.specs.Lookup as table;
 ghost use Rattle.format.specs.Bytes.{ok};
 ghost use Rattle.format.specs.Run as format;
+ghost use Rattle.format.specs.Rows.{recordWidth};
 ghost use Rattle.line.specs.Answers.{lineOf};
 ghost use Rattle.exam.specs.View.{entries, patternAt, Ready};
 ghost use Rattle.moves.specs.Answers.{choiceOf};
@@ -128,11 +130,11 @@ fn walk(
 
 // The line of offset `o` of record `r`.
 fn line_of(records: &[u32], lines: &[u32], r: usize, o: u32) -> LineAt
-    requires { ⌜ r * 19 + 19 ≤ length (now records) ⌝ }
-    requires { ⌜ (table.word 19 (now records) r 17 + table.word 19 (now records) r 18) * 2 ≤ length (now lines) ⌝ }
-    ensures { λ x. ⌜ lineOf x ≡ lineAt (entries (now (lines .entry)) (table.word 19 (now (records .entry)) r 17) (table.word 19 (now (records .entry)) r 18)) o ⌝ }
+    requires { ⌜ r * recordWidth + recordWidth ≤ length (now records) ⌝ }
+    requires { ⌜ (table.recordWord (now records) r 17 + table.recordWord (now records) r 18) * 2 ≤ length (now lines) ⌝ }
+    ensures { λ x. ⌜ lineOf x ≡ lineAt (entries (now (lines .entry)) (table.recordWord (now (records .entry)) r 17) (table.recordWord (now (records .entry)) r 18)) o ⌝ }
 {
-    let row = r * 19;
+    let row = r * RECORD_WIDTH;
     let first = word(records, row + 17);
     let start = first * 2;
     let end = (first + word(records, row + 18)) * 2;

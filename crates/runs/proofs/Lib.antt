@@ -15,3 +15,4 @@ pub mod Jumps
 pub mod Choices
 pub mod Frames
 pub mod Frame
+pub mod Parents

@@ -7,6 +7,7 @@ use lib.Dec.{ltb}
 use lib.ListN.{length, drop}
 use Rattle.format.specs.Bytes.{onAnswer}
 use Rattle.format.specs.File.{endSection}
+use Rattle.format.specs.Rows.{recordWidth}
 use Rattle.rows.specs.Table.{rowCount}
 use Rattle.irep.specs.declared.Used.{Used as IrepUsed}
 use Rattle.irep.specs.declared.Section.{Section as IrepAnswer}
@@ -130,7 +131,7 @@ unfoldable pub lvarOutOf : List ℕ → ℕ → List ℕ → List ℕ → List �
 lvarOutOf f at rs ss ns p =
     cond (p .irep)
     (cond (p .lvar) (lvarOut (section.Refused 6) rs ss ns)
-    (cond (ltb (rowCount (length rs) 19) (p .used .records)) (lvarOut (section.Refused 14) rs ss ns)
+    (cond (ltb (rowCount (length rs) recordWidth) (p .used .records)) (lvarOut (section.Refused 14) rs ss ns)
     (let o = lvarOf (drop at f) at (p .used .records) rs ss ns in
     lvarOut (lvarNext p (o .ans)) (o .records) (o .strings) (o .names))))
     (lvarOut (section.Refused 6) rs ss ns)
@@ -153,7 +154,7 @@ unfoldable pub dbgOutOf : List ℕ → ℕ → List ℕ → List ℕ → List �
 dbgOutOf f at rs ns fs ls p =
     cond (p .irep)
     (cond (p .dbg) (dbgOut (section.Refused 6) rs ns fs ls)
-    (cond (ltb (rowCount (length rs) 19) (p .used .records)) (dbgOut (section.Refused 14) rs ns fs ls)
+    (cond (ltb (rowCount (length rs) recordWidth) (p .used .records)) (dbgOut (section.Refused 14) rs ns fs ls)
     (let o = debugOf (drop at f) at (p .used .records) (tables rs ns fs ls) in
     dbgOut (dbgNext p (o .ans)) (o .tables .records) (o .tables .fileNames) (o .tables .files) (o .tables .lines))))
     (dbgOut (section.Refused 6) rs ns fs ls)

@@ -1,4 +1,5 @@
 // One section at a place of a file, into the lent tables that are its own.
+use format::RECORD_WIDTH;
 use marks::Size;
 use marks::section_end;
 use rows::row_count;
@@ -177,7 +178,7 @@ pub fn lvar_at(
     }
     let u = p.used;
     let count = u.records;
-    if row_count(records.len(), 19) < count {
+    if row_count(records.len(), RECORD_WIDTH) < count {
         return Section::Refused(14);
     }
     match lvar::section_lvar(&f[at..], at, count as usize, records, strings, names) {
@@ -216,7 +217,7 @@ pub fn dbg_at(
     }
     let u = p.used;
     let count = u.records;
-    if row_count(records.len(), 19) < count {
+    if row_count(records.len(), RECORD_WIDTH) < count {
         return Section::Refused(14);
     }
     match debug::parse_debug_section(

@@ -15,7 +15,7 @@ use Rattle.format.specs.File.{Content}
 use Rattle.format.specs.Load.{Nine, recordsOf, filesOf, tablesOf, loading, load}
 use Rattle.format.specs.Lookup.{recordRowAt}
 use Rattle.format.specs.Pattern.{patternOf, recAt, blank}
-use Rattle.format.proofs.Places.{rows-length}
+use Rattle.format.proofs.Places.{records-length}
 use Rattle.layout.proofs.Own.{owns}
 use Rattle.layout.proofs.Inside.{loading-inside, loading-held}
 use Rattle.layout.proofs.Pattern.{pattern-length, pattern-at}
@@ -39,7 +39,7 @@ module _ (f : List ℕ) (m : Nine) (c : Content) (loaded : loading f m ≡ ok c)
           → partOf f (getD (tablesOf c .records) i (recordRowAt [] 0) .place) (getD (tablesOf c .records) i (recordRowAt [] 0) .ilen) ≡ recAt (patternOf f c) i .code
       go true e =
           let h : length (recordsOf c) ≤ i = leb-true _ _ e in
-          let rows : length (tablesOf c .records) ≤ i = rw rows-length h in
+          let rows : length (tablesOf c .records) ≤ i = rw records-length h in
           let records : length (patternOf f c) ≤ i = rw pattern-length h in
           rw (List·getD-eq-default (tablesOf c .records) (recordRowAt [] 0) rows, List·getD-eq-default (patternOf f c) blank records) (no-bytes f)
       go false e =

@@ -18,6 +18,7 @@ use Rattle.debug.proofs.read_record.Reads as read-record
 use Rattle.debug.proofs.reads_nothing.Reads as reads-nothing
 use Rattle.debug.proofs.+read_debug_record.{statement}
 use Rattle.debug.proofs.+read_debug_record.Tie.{close}
+use Rattle.format.specs.Rows.{recordWidth}
 
 abbrev μ-records : Measures 4 kinds.ps ℕ
 μ-records κs a = a .1 .1 .1 .1 .0 - a .1 .1 .1 .0
@@ -47,7 +48,7 @@ began : (t : ℕ) (c : lts.After-known-told2 (claims t) (at t) itself.Post Inv-l
     let call = c .before .before .before .before .before .before .before .before .before .read-record in
     (v .1 .0 ≡ a .rec + 1)
     × (walkOf (a .s .now) (a .names) (a .count) 1 (state (a .rec) (a .records .now) (spot (a .at) (a .used) (tabs (a .files .now) (a .lines .now)))) ≡ walkOf (a .s .now)
-    (a .names) (a .count) (getD (a .records .now) (a .rec * 19 + 3) 0)
+    (a .names) (a .count) (getD (a .records .now) (a .rec * recordWidth + 3) 0)
     (state (v .1 .0) (call .last .1 .1 .1 .1 .0) (spot (v .0) (v .1 .1 .0) (tabs (call .last .1 .1 .1 .1 .1 .0) (call .last .1 .1 .1 .1 .1 .1 .0)))))
 began t c =
     let c9 = c .before .before .before .before .before .before .before .before .before in
@@ -114,7 +115,7 @@ returns-2 t c =
     let a = c24 .args in
     let l = c3 .loop in
     sym (began t (c4) .1 ∙ l .inv .5
-    ∙ visit-none (a .s .now) (a .names) (a .count) ((getD (a .records .now) (a .rec * 19 + 3) 0) - l .child)
+    ∙ visit-none (a .s .now) (a .names) (a .count) ((getD (a .records .now) (a .rec * recordWidth + 3) 0) - l .child)
     (state (l .r) (l .records) (spot (l .a) (l .u) (tabs (l .files) (l .lines)))) (sym (c .before .reads-nothing2 .ensures) ∙ c .if2 .taken))
 
 read-debug-record-requires : (t : ℕ) → lts.Need-read-debug-record-requires (claims t) (at t) itself.Post Inv-loop μ-loop
@@ -142,7 +143,7 @@ returns-3 t c =
     let a = c37 .args in
     let l = c16 .loop in
     sym (began t (c17) .1 ∙ l .inv .5
-    ∙ visit-child (a .s .now) (a .names) (a .count) (getD (a .records .now) (a .rec * 19 + 3) 0) (l .child) (state (l .r) (l .records) (spot (l .a) (l .u) (tabs (l .files) (l .lines))))
+    ∙ visit-child (a .s .now) (a .names) (a .count) (getD (a .records .now) (a .rec * recordWidth + 3) 0) (l .child) (state (l .r) (l .records) (spot (l .a) (l .u) (tabs (l .files) (l .lines))))
     (walkRun (Refused (c .before .k2 .given .0 .0)) (call .last .1 .1 .1 .1 .1 .0) (call .last .1 .1 .1 .1 .1 .1 .0) (call .last .1 .1 .1 .1 .1 .1 .1 .0)) (c15 .loop-test .taken)
     (ap (λ r. walkRun r (call .last .1 .1 .1 .1 .1 .0) (call .last .1 .1 .1 .1 .1 .1 .0) (call .last .1 .1 .1 .1 .1 .1 .1 .0)) (sym (c .before .k2 .given .1)) ∙ call .ensures))
 
@@ -154,7 +155,7 @@ add-child t c =
           .before .before .before .before .before .before .before .before .before .before .before .before .before .before .before .slice-known4 .given
           (c .before .before .before .before .before .before .before .before .before .before .before .before .before .before .before
           .before .before .before .before .before .before .before .before .before .before .before .before .before .before .before
-          .before .before .before .before .before .before .before .args .rec * 19 + 3),
+          .before .before .before .before .before .before .before .args .rec * recordWidth + 3),
     )
 
 loop-again : (t : ℕ) → lts.Need-loop-again (claims t) (at t) itself.Post Inv-loop μ-loop
@@ -179,7 +180,7 @@ loop-again t c =
       call .kept .1 .1 .1 .1 .1 .1 .1 .0 ∙ l .inv .2,
       omega arith,
       omega (arith, l .inv .4),
-      l .inv .5 ∙ visit-child (a .s .now) (a .names) (a .count) (getD (a .records .now) (a .rec * 19 + 3) 0) (l .child) st o taken e,
+      l .inv .5 ∙ visit-child (a .s .now) (a .names) (a .count) (getD (a .records .now) (a .rec * recordWidth + 3) 0) (l .child) st o taken e,
     )
 
 returns-4 : (t : ℕ) → lts.Need-returns-4 (claims t) (at t) itself.Post Inv-loop μ-loop
@@ -200,7 +201,7 @@ returns-5 t c =
     let c22 = c2 .before .before .before .before .before .before .before .before .before .before .before .before .before .before .before .before .before .before .before .before in
     let a = c22 .args in
     let l = c .before .loop in
-    sym (began t (c2) .1 ∙ l .inv .5 ∙ visit-done (a .s .now) (a .names) (a .count) (getD (a .records .now) (a .rec * 19 + 3) 0) (l .child)
+    sym (began t (c2) .1 ∙ l .inv .5 ∙ visit-done (a .s .now) (a .names) (a .count) (getD (a .records .now) (a .rec * recordWidth + 3) 0) (l .child)
     (state (l .r) (l .records) (spot (l .a) (l .u) (tabs (l .files) (l .lines)))) (c .loop-test .left))
 
 pub +read-debug-record-spec : {M : Type 1} → statement M

@@ -17,6 +17,7 @@ use Rattle.lvar.proofs.+read_lv_records.Lts-read_lv_records as lts
 use Rattle.lvar.proofs.read_record.Reads as read-record-reads
 use Rattle.lvar.proofs.+read_lv_records.{statement}
 use Rattle.lvar.proofs.+read_lv_records.Tie.{close}
+use Rattle.format.specs.Rows.{recordWidth}
 
 -- the records left
 abbrev μ-read-lv-records : Measures 3 kinds.ps ℕ
@@ -48,7 +49,7 @@ began : (t : ℕ) (c : lts.After-known-told2 (claims t) (at t) read-lv-records.P
     let call = c .before .before .before .before .before .before .before .read-record in
     (v .1 .0 ≡ a .rec + 1)
     × (lvWalk (a .f .now) (a .strings) (a .count) 1 (state (a .at) (a .rec) (a .used) (a .records .now) (a .names .now))
-    ≡ lvWalk (a .f .now) (a .strings) (a .count) (getD (a .records .now) (a .rec * 19 + 3) 0) (state (v .0) (v .1 .0) (v .1 .1 .0) (call .last .1 .0) (call .last .1 .1 .0)))
+    ≡ lvWalk (a .f .now) (a .strings) (a .count) (getD (a .records .now) (a .rec * recordWidth + 3) 0) (state (v .0) (v .1 .0) (v .1 .1 .0) (call .last .1 .0) (call .last .1 .1 .0)))
 began t c =
     let c7 = c .before .before .before .before .before .before .before in
     let c11 = c7 .before .before .before .before in
@@ -74,7 +75,7 @@ returns-2 t c =
     let l = c .before .before .loop in
     let a = c .before .before .before .before .before .before .before .before .before .before .before .before .before .before .before .before .before .before .args in
     sym (began t (c .before .before .before) .1 ∙ l .inv .4
-    ∙ lv-past (a .f .now) (a .strings) (a .count) (getD (a .records .now) (a .rec * 19 + 3) 0 - l .child) (state (l .a) (l .r) (l .u) (l .records) (l .names)) (c .if2 .taken))
+    ∙ lv-past (a .f .now) (a .strings) (a .count) (getD (a .records .now) (a .rec * recordWidth + 3) 0 - l .child) (state (l .a) (l .r) (l .u) (l .records) (l .names)) (c .if2 .taken))
 
 read-lv-records-requires : (t : ℕ) → lts.Need-read-lv-records-requires (claims t) (at t) read-lv-records.Post Inv-loop μ-loop
 read-lv-records-requires t c κs =
@@ -98,7 +99,7 @@ returns-3 t c =
     let l = c12 .loop in
     let a = c28 .args in
     sym (began t (c13) .1 ∙ l .inv .4
-    ∙ lv-child (a .f .now) (a .strings) (a .count) (getD (a .records .now) (a .rec * 19 + 3) 0) (l .child) (state (l .a) (l .r) (l .u) (l .records) (l .names))
+    ∙ lv-child (a .f .now) (a .strings) (a .count) (getD (a .records .now) (a .rec * recordWidth + 3) 0) (l .child) (state (l .a) (l .r) (l .u) (l .records) (l .names))
     (outOf (Refused (c .before .k2 .given .0 .0)) (call .last .1 .0) (call .last .1 .1 .0)) (c11 .loop-test .taken)
     (ap (λ r. outOf r (call .last .1 .0) (call .last .1 .1 .0)) (sym (c .before .k2 .given .1)) ∙ call .ensures))
 
@@ -109,7 +110,7 @@ add-child t c =
       c .before .before .before .before .before .before .before .before .before .before .before .before .before .before .before
           .before .before .before .before .before .before .before .before .slice-known3 .given
           (c .before .before .before .before .before .before .before .before .before .before .before .before .before .before .before
-          .before .before .before .before .before .before .before .before .before .before .before .before .before .args .rec * 19 + 3),
+          .before .before .before .before .before .before .before .before .before .before .before .before .before .args .rec * recordWidth + 3),
     )
 
 loop-again : (t : ℕ) → lts.Need-loop-again (claims t) (at t) read-lv-records.Post Inv-loop μ-loop
@@ -131,7 +132,7 @@ loop-again t c =
       call .kept .1 .1 .0 ∙ l .inv .1,
       omega arith,
       omega (arith, l .inv .3),
-      l .inv .4 ∙ lv-child (a .f .now) (a .strings) (a .count) (getD (a .records .now) (a .rec * 19 + 3) 0) (l .child) st o taken e,
+      l .inv .4 ∙ lv-child (a .f .now) (a .strings) (a .count) (getD (a .records .now) (a .rec * recordWidth + 3) 0) (l .child) st o taken e,
     )
 
 returns-4 : (t : ℕ) → lts.Need-returns-4 (claims t) (at t) read-lv-records.Post Inv-loop μ-loop
@@ -147,7 +148,7 @@ returns-5 t c =
     let a = c .before .before .before .before .before .before .before .before .before .before .before .before .before .before .before .before .before .args in
     let l = c .before .loop in
     sym (began t (c .before .before) .1 ∙ l .inv .4
-    ∙ lv-done (a .f .now) (a .strings) (a .count) (getD (a .records .now) (a .rec * 19 + 3) 0) (l .child) (state (l .a) (l .r) (l .u) (l .records) (l .names)) (c .loop-test .left))
+    ∙ lv-done (a .f .now) (a .strings) (a .count) (getD (a .records .now) (a .rec * recordWidth + 3) 0) (l .child) (state (l .a) (l .r) (l .u) (l .records) (l .names)) (c .loop-test .left))
 
 pub +read-lv-records-spec : {M : Type 1} → statement M
 +read-lv-records-spec = close μ-read-lv-records λ t. lts.spec (claims t)

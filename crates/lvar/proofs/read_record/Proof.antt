@@ -10,13 +10,14 @@ use Rattle.lvar.proofs.Laws.{lv-step}
 use borrow.Author.Needs.{needs}
 use Rattle.lvar.proofs.read_record.Statement.{statement}
 use Rattle.lvar.proofs.read_record.Tie as tie
+use Rattle.format.specs.Rows.{recordWidth}
 
 returns : tie.Need-returns
 unfolding lvStep
 returns c = rw (eq-eqb _ _ (c .if1 .taken))
 
 cast-read-rows : tie.Need-cast-read-rows
-cast-read-rows c = omega (arith, c .before .slice-known3 .given (c .before .before .before .before .before .args .rec * 19 + 1))
+cast-read-rows c = omega (arith, c .before .slice-known3 .given (c .before .before .before .before .before .args .rec * recordWidth + 1))
 
 returns-2 : tie.Need-returns-2
 returns-2 c =

@@ -56,6 +56,7 @@ use Rattle.records_row.specs.declared.Record.{Record}
 use Rattle.records_row.specs.Row.{rowAt}
 use Rattle.records.specs.Records.{rowsOf}
 use Rattle.records.proofs.Filled.{upTo, up-to-none, up-to-more, up-to-all}
+use Rattle.records_row.proofs.Laws.{rowBytes}
 use Rattle.records_row.proofs.Record as T
 use Rattle.records_row.proofs.Record.Laws as T′
 use Rattle.records_row.proofs.row_at as row-at
@@ -209,9 +210,10 @@ module _ {M : Type 1} (𝓤 : URA M) (H : Heap 𝓤) (A : Atoms 𝓤) (W : Given
         land ! (from ! (stop !)) (init ! 9 refl (LL.lawful T.the-type T′.the-laws 𝓤 H A W .typed r _ is .0)) $
         move ! (1 ∷ []) $ split ! $ move ! (1 ∷ []) $ drop ! $ move ! (3 ∷ 4 ∷ 5 ∷ []) $
         -- [obs; the borrow; its token; the words' token; the row; what the words own; _3; _4; _5; _6; _7; _1; _2; …]
-        assigns ! (bin ! (load ! (from ! (stop !)) (look ! 6 refl)) (lit ! tt) (scaled-fits i n 76 small (room .1))) (from ! (stop !)) (store ! 7 refl (tt, scaled-fits i n 76 small (room .1))) $
+        assigns ! (bin ! (load ! (from ! (stop !)) (look ! 6 refl)) (lit ! tt) (scaled-fits i n rowBytes small (room .1))) (from ! (stop !))
+        (store ! 7 refl (tt, scaled-fits i n rowBytes small (room .1))) $
         assigns ! (bin ! (load ! (from ! (fld ! refl (stop !))) (look-in ! 11 (sub ! 0 refl (whole !)))) (load ! (from ! (stop !)) (look ! 7 refl)) tt) (from ! (stop !)) (init ! 10 refl (tt, tt)) $
-        rewrite ! 10 (λ (p : ℕ). ‵ (fat fullShare tyPtr l₇ 0 (vptr b p))) (sym (place-is 76 o i)) refl $
+        rewrite ! 10 (λ (p : ℕ). ‵ (fat fullShare tyPtr l₇ 0 (vptr b p))) (sym (place-is rowBytes o i)) refl $
         opens-slice ! tt T.the-row l b o $
         elem-out ! T.the-row (Is T.the-row) (shows 𝓤 H A T.the-row) (LL.vals T.the-type T′.the-laws) (LL.tells T.the-type T′.the-laws) fullShare l i r b o within (λ _.
         -- [rows[i]; what it owns; the others; the open borrow; obs; auth; the words' token; the row; what the words own; _3; _4; _5; _6; _7; …]

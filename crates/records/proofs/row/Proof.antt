@@ -46,6 +46,7 @@ use denote.Triple.Walked.{says, Stays, stay-none-slice, stay-none, walkOf, goes-
 use denote.Exit.{yes}
 use Rattle.records_row.specs.declared.Record.{Record}
 use Rattle.records_row.specs.Row.{zeroRow}
+use Rattle.records_row.proofs.Laws.{rowBytes}
 use Rattle.records_row.proofs.Record as T
 use Rattle.records_row.proofs.Record.Laws as T′
 use Rattle.records_row.proofs.zero_row as zero
@@ -141,10 +142,10 @@ module _ {M : Type 1} (𝓤 : URA M) (H : Heap 𝓤) (A : Atoms 𝓤) (W : Given
         free1 ! $ move ! (6 ∷ 7 ∷ []) $ free1 ! $ move ! (4 ∷ 5 ∷ []) $ free1 ! $ free0 ! $
         move ! (1 ∷ 3 ∷ 2 ∷ 0 ∷ []) $ by ! (exits r u (e ∙ sym (List·getD-eq-default ys zeroRow (leb→le _ _ past)))))))))
         (λ not-past. let within : i < length ys = nleb→lt _ _ not-past in skips ! $ exec ! C Λ (En l₀ l₁ l₂ l₃ l₄ l₅ l₆) code-mir.t-4 (atRet (En l₀ l₁ l₂ l₃ l₄ l₅ l₆) Post) $
-        assigns ! (bin ! (load ! (from ! (stop !)) (look ! 11 refl)) (lit ! tt) (scaled-fits i (length ys) 76 within (room .1))) (from ! (stop !))
-        (store ! 9 refl (tt, scaled-fits i (length ys) 76 within (room .1))) $
+        assigns ! (bin ! (load ! (from ! (stop !)) (look ! 11 refl)) (lit ! tt) (scaled-fits i (length ys) rowBytes within (room .1))) (from ! (stop !))
+        (store ! 9 refl (tt, scaled-fits i (length ys) rowBytes within (room .1))) $
         assigns ! (bin ! (load ! (from ! (fld ! refl (stop !))) (look-in ! 13 (sub ! 0 refl (whole !)))) (load ! (from ! (stop !)) (look ! 9 refl)) tt) (from ! (stop !)) (init ! 5 refl (tt, tt)) $
-        rewrite ! 5 (λ (p : ℕ). ‵ (fat fullShare tyPtr l₅ 0 (vptr b p))) (sym (place-is 76 o i)) refl $
+        rewrite ! 5 (λ (p : ℕ). ‵ (fat fullShare tyPtr l₅ 0 (vptr b p))) (sym (place-is rowBytes o i)) refl $
         move ! (2 ∷ []) $ fsplit ! $ move ! (1 ∷ []) $ fsplit ! $ move ! (1 ∷ 3 ∷ []) $
         looks-slice ! tt T.the-row (Is T.the-row) (shows 𝓤 H A T.the-row) (LL.vals T.the-type T′.the-laws) (LL.tells T.the-type T′.the-laws) ((LL.copy T.the-type T′.the-copy) 𝓤 H A W) ys b o (λ q′.
         elem-out ! T.the-row (Is T.the-row) (shows 𝓤 H A T.the-row) (LL.vals T.the-type T′.the-laws) (LL.tells T.the-type T′.the-laws) q′ ys i zeroRow b o within (λ g.

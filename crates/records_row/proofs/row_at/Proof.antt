@@ -14,7 +14,11 @@ returns c = simp (c .zero-row .ensures, le-ltb _ _ (c .before .if1 .taken))
 returns-2 : tie.Need-returns-2
 unfolding rowAt
 returns-2 c =
-    simp (lt-ltb _ _ (c .before .before .before .before .before .before .before .before .before .before .before .before .before .before .before .before .before .before .before .if1 .left), add-zero)
+    simp (
+      lt-ltb _ _
+          (c .before .before .before .before .before .before .before .before .before .before .before .before .before .before .before .before .before .before .before .before .before .if1 .left),
+      add-zero,
+    )
 
 pub row-at-spec : {M : Type 1} → statement M
 row-at-spec =
@@ -22,6 +26,12 @@ row-at-spec =
     (tie.spec
     (λ c κs. search needs)
     returns
+    (λ c. search needs)
+    (λ c. search needs)
+    (λ c. search needs)
+    (λ c. search needs)
+    (λ c. search needs)
+    (λ c. search needs)
     (λ c. search needs)
     (λ c. search needs)
     (λ c. search needs)

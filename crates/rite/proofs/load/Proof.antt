@@ -7,8 +7,8 @@ use Rattle.format.specs.Load.{tablesOf, wordsOf}
 use Rattle.format.proofs.File.{accepted}
 use Rattle.file.specs.declared.Loaded.the-variants as loaded-is
 use Rattle.file.proofs.Laws.{file-read, file-refused}
-use Rattle.rite.specs.Answers.{words}
-use Rattle.rite.proofs.Whole.{zero-words, same-sizes, load-went, load-refused}
+use Rattle.rite.specs.Answers.{words, loadedOf}
+use Rattle.rite.proofs.Whole.{zero-words, same-sizes, load-holds, load-went, load-refused}
 use borrow.Author.Needs.{needs}
 use Rattle.rite.proofs.load.Statement.{statement}
 use Rattle.rite.proofs.load.Tie as tie
@@ -41,87 +41,96 @@ read-sections-requires c κs =
 same-length-10 : tie.Need-same-length-10
 same-length-10 c =
     let c20 = c .before .before .before .before .before .before .before .before .before .before .before .before .before .before .before .before .before .before .before .before in
-    let c21 = c20 .before in
-    let c41 = c21 .before .before .before .before .before .before .before .before .before .before .before .before .before .before .before .before .before .before .before .before in
-    let c51 = c41 .before .before .before .before .before .before .before .before .before .before in
-    c21 .read-sections .kept .1 .1 .0 ∙ c51 .clear-all .kept .0
+    let c25 = c20 .before .before .before .before .before in
+    let c26 = c25 .before in
+    let c46 = c26 .before .before .before .before .before .before .before .before .before .before .before .before .before .before .before .before .before .before .before .before in
+    let c56 = c46 .before .before .before .before .before .before .before .before .before .before in
+    c .before .before .link-parents .kept .0 ∙ c26 .read-sections .kept .1 .1 .0 ∙ c56 .clear-all .kept .0
 
 same-length-11 : tie.Need-same-length-11
 same-length-11 c =
     let c20 = c .before .before .before .before .before .before .before .before .before .before .before .before .before .before .before .before .before .before .before .before in
-    let c21 = c20 .before in
-    let c41 = c21 .before .before .before .before .before .before .before .before .before .before .before .before .before .before .before .before .before .before .before .before in
-    let c51 = c41 .before .before .before .before .before .before .before .before .before .before in
-    c21 .read-sections .kept .1 .1 .1 .0 ∙ c51 .clear-all .kept .1 .0
+    let c25 = c20 .before .before .before .before .before in
+    let c26 = c25 .before in
+    let c46 = c26 .before .before .before .before .before .before .before .before .before .before .before .before .before .before .before .before .before .before .before .before in
+    let c56 = c46 .before .before .before .before .before .before .before .before .before .before in
+    c26 .read-sections .kept .1 .1 .1 .0 ∙ c56 .clear-all .kept .1 .0
 
 same-length-12 : tie.Need-same-length-12
 same-length-12 c =
     let c20 = c .before .before .before .before .before .before .before .before .before .before .before .before .before .before .before .before .before .before .before .before in
-    let c21 = c20 .before in
-    let c41 = c21 .before .before .before .before .before .before .before .before .before .before .before .before .before .before .before .before .before .before .before .before in
-    let c51 = c41 .before .before .before .before .before .before .before .before .before .before in
-    c21 .read-sections .kept .1 .1 .1 .1 .0 ∙ c51 .clear-all .kept .1 .1 .0
+    let c25 = c20 .before .before .before .before .before in
+    let c26 = c25 .before in
+    let c46 = c26 .before .before .before .before .before .before .before .before .before .before .before .before .before .before .before .before .before .before .before .before in
+    let c56 = c46 .before .before .before .before .before .before .before .before .before .before in
+    c26 .read-sections .kept .1 .1 .1 .1 .0 ∙ c56 .clear-all .kept .1 .1 .0
 
 same-length-13 : tie.Need-same-length-13
 same-length-13 c =
     let c20 = c .before .before .before .before .before .before .before .before .before .before .before .before .before .before .before .before .before .before .before .before in
-    let c21 = c20 .before in
-    let c41 = c21 .before .before .before .before .before .before .before .before .before .before .before .before .before .before .before .before .before .before .before .before in
-    let c51 = c41 .before .before .before .before .before .before .before .before .before .before in
-    c21 .read-sections .kept .1 .1 .1 .1 .1 .0 ∙ c51 .clear-all .kept .1 .1 .1 .0
+    let c25 = c20 .before .before .before .before .before in
+    let c26 = c25 .before in
+    let c46 = c26 .before .before .before .before .before .before .before .before .before .before .before .before .before .before .before .before .before .before .before .before in
+    let c56 = c46 .before .before .before .before .before .before .before .before .before .before in
+    c26 .read-sections .kept .1 .1 .1 .1 .1 .0 ∙ c56 .clear-all .kept .1 .1 .1 .0
 
 same-length-14 : tie.Need-same-length-14
 same-length-14 c =
     let c20 = c .before .before .before .before .before .before .before .before .before .before .before .before .before .before .before .before .before .before .before .before in
-    let c21 = c20 .before in
-    let c41 = c21 .before .before .before .before .before .before .before .before .before .before .before .before .before .before .before .before .before .before .before .before in
-    let c51 = c41 .before .before .before .before .before .before .before .before .before .before in
-    c21 .read-sections .kept .1 .1 .1 .1 .1 .1 .0 ∙ c51 .clear-all .kept .1 .1 .1 .1 .0
+    let c25 = c20 .before .before .before .before .before in
+    let c26 = c25 .before in
+    let c46 = c26 .before .before .before .before .before .before .before .before .before .before .before .before .before .before .before .before .before .before .before .before in
+    let c56 = c46 .before .before .before .before .before .before .before .before .before .before in
+    c26 .read-sections .kept .1 .1 .1 .1 .1 .1 .0 ∙ c56 .clear-all .kept .1 .1 .1 .1 .0
 
 same-length-15 : tie.Need-same-length-15
 same-length-15 c =
     let c20 = c .before .before .before .before .before .before .before .before .before .before .before .before .before .before .before .before .before .before .before .before in
-    let c21 = c20 .before in
-    let c41 = c21 .before .before .before .before .before .before .before .before .before .before .before .before .before .before .before .before .before .before .before .before in
-    let c51 = c41 .before .before .before .before .before .before .before .before .before .before in
-    c21 .read-sections .kept .1 .1 .1 .1 .1 .1 .1 .0 ∙ c51 .clear-all .kept .1 .1 .1 .1 .1 .0
+    let c25 = c20 .before .before .before .before .before in
+    let c26 = c25 .before in
+    let c46 = c26 .before .before .before .before .before .before .before .before .before .before .before .before .before .before .before .before .before .before .before .before in
+    let c56 = c46 .before .before .before .before .before .before .before .before .before .before in
+    c26 .read-sections .kept .1 .1 .1 .1 .1 .1 .1 .0 ∙ c56 .clear-all .kept .1 .1 .1 .1 .1 .0
 
 same-length-16 : tie.Need-same-length-16
 same-length-16 c =
     let c20 = c .before .before .before .before .before .before .before .before .before .before .before .before .before .before .before .before .before .before .before .before in
-    let c21 = c20 .before in
-    let c41 = c21 .before .before .before .before .before .before .before .before .before .before .before .before .before .before .before .before .before .before .before .before in
-    let c51 = c41 .before .before .before .before .before .before .before .before .before .before in
-    c21 .read-sections .kept .1 .1 .1 .1 .1 .1 .1 .1 .0 ∙ c51 .clear-all .kept .1 .1 .1 .1 .1 .1 .0
+    let c25 = c20 .before .before .before .before .before in
+    let c26 = c25 .before in
+    let c46 = c26 .before .before .before .before .before .before .before .before .before .before .before .before .before .before .before .before .before .before .before .before in
+    let c56 = c46 .before .before .before .before .before .before .before .before .before .before in
+    c26 .read-sections .kept .1 .1 .1 .1 .1 .1 .1 .1 .0 ∙ c56 .clear-all .kept .1 .1 .1 .1 .1 .1 .0
 
 same-length-17 : tie.Need-same-length-17
 same-length-17 c =
     let c20 = c .before .before .before .before .before .before .before .before .before .before .before .before .before .before .before .before .before .before .before .before in
-    let c21 = c20 .before in
-    let c41 = c21 .before .before .before .before .before .before .before .before .before .before .before .before .before .before .before .before .before .before .before .before in
-    let c51 = c41 .before .before .before .before .before .before .before .before .before .before in
-    c21 .read-sections .kept .1 .1 .1 .1 .1 .1 .1 .1 .1 .0 ∙ c51 .clear-all .kept .1 .1 .1 .1 .1 .1 .1 .0
+    let c25 = c20 .before .before .before .before .before in
+    let c26 = c25 .before in
+    let c46 = c26 .before .before .before .before .before .before .before .before .before .before .before .before .before .before .before .before .before .before .before .before in
+    let c56 = c46 .before .before .before .before .before .before .before .before .before .before in
+    c26 .read-sections .kept .1 .1 .1 .1 .1 .1 .1 .1 .1 .0 ∙ c56 .clear-all .kept .1 .1 .1 .1 .1 .1 .1 .0
 
 same-length-18 : tie.Need-same-length-18
 same-length-18 c =
     let c20 = c .before .before .before .before .before .before .before .before .before .before .before .before .before .before .before .before .before .before .before .before in
-    let c21 = c20 .before in
-    let c41 = c21 .before .before .before .before .before .before .before .before .before .before .before .before .before .before .before .before .before .before .before .before in
-    let c51 = c41 .before .before .before .before .before .before .before .before .before .before in
-    c21 .read-sections .kept .1 .1 .1 .1 .1 .1 .1 .1 .1 .1 .0 ∙ c51 .clear-all .kept .1 .1 .1 .1 .1 .1 .1 .1 .0
+    let c25 = c20 .before .before .before .before .before in
+    let c26 = c25 .before in
+    let c46 = c26 .before .before .before .before .before .before .before .before .before .before .before .before .before .before .before .before .before .before .before .before in
+    let c56 = c46 .before .before .before .before .before .before .before .before .before .before in
+    c26 .read-sections .kept .1 .1 .1 .1 .1 .1 .1 .1 .1 .1 .0 ∙ c56 .clear-all .kept .1 .1 .1 .1 .1 .1 .1 .1 .0
 
-returns-2 : tie.Need-returns-2
-returns-2 c =
+link-parents-requires : tie.Need-link-parents-requires
+link-parents-requires c κs =
     let c20 = c .before .before .before .before .before .before .before .before .before .before .before .before .before .before .before .before .before .before .before .before in
-    let c21 = c20 .before in
-    let c31 = c21 .before .before .before .before .before .before .before .before .before .before in
-    let c32 = c31 .before in
-    let c51 = c32 .before .before .before .before .before .before .before .before .before .before .before .before .before .before .before .before .before .before .before in
-    let c70 = c51 .before .before .before .before .before .before .before .before .before .before .before .before .before .before .before .before .before .before .before in
-    let c71 = c70 .before in
-    let a = c71 .args in
-    let last = c51 .clear-all .last in
-    let last2 = c21 .read-sections .last in
+    let c23 = c20 .before .before .before in
+    let c33 = c23 .before .before .before .before .before .before .before .before .before .before in
+    let c34 = c33 .before in
+    let c53 = c34 .before .before .before .before .before .before .before .before .before .before .before .before .before .before .before .before .before .before .before in
+    let c72 = c53 .before .before .before .before .before .before .before .before .before .before .before .before .before .before .before .before .before .before .before in
+    let c73 = c72 .before in
+    let a = c73 .args in
+    let last = c53 .clear-all .last in
+    let last2 = c23 .read-sections .last in
     let lent = words (a .records .now) (a .handlers .now) (a .pool .now) (a .symbols .now) (a .strings .now) (a .names .now) (a .filenames .now) (a .files .now) (a .lines .now) in
     let left =
     words (last .0) (last .1 .0) (last .1 .1 .0) (last .1 .1 .1 .0) (last .1 .1 .1 .1 .0) (last .1 .1 .1 .1 .1 .0) (last .1 .1 .1 .1 .1 .1 .0)
@@ -129,11 +138,44 @@ returns-2 c =
     let tables =
     words (last2 .1 .1 .0) (last2 .1 .1 .1 .0) (last2 .1 .1 .1 .1 .0) (last2 .1 .1 .1 .1 .1 .0) (last2 .1 .1 .1 .1 .1 .1 .0) (last2 .1 .1 .1 .1 .1 .1 .1 .0)
     (last2 .1 .1 .1 .1 .1 .1 .1 .1 .0) (last2 .1 .1 .1 .1 .1 .1 .1 .1 .1 .0) (last2 .1 .1 .1 .1 .1 .1 .1 .1 .1 .1 .0) in
-    load-went (a .f .now) (λ i. omega (arith, c70 .shared-slice-known .given i)) lent left tables
+    let u = c .before .before .before .u .given in
+    let holds =
+    load-holds (a .f .now) (λ i. omega (arith, c72 .shared-slice-known .given i)) lent left tables
     (zero-words lent (last .0) (last .1 .0) (last .1 .1 .0) (last .1 .1 .1 .0) (last .1 .1 .1 .1 .0) (last .1 .1 .1 .1 .1 .0) (last .1 .1 .1 .1 .1 .1 .0)
-    (last .1 .1 .1 .1 .1 .1 .1 .0) (last .1 .1 .1 .1 .1 .1 .1 .1 .0) (c51 .clear-all .ensures)) (c21 .read-sections .result)
-    (file-read (a .f .now) 1024 left (c32 .file-refusal .result) (c32 .file-refusal .ensures) (c31 .if1 .left) (c21 .read-sections .result) tables
-    (c21 .read-sections .ensures)) (c .before .u .given .0 .0) (c .before .u .given .1)
+    (last .1 .1 .1 .1 .1 .1 .1 .0) (last .1 .1 .1 .1 .1 .1 .1 .1 .0) (c53 .clear-all .ensures)) (c23 .read-sections .result)
+    (file-read (a .f .now) 1024 left (c34 .file-refusal .result) (c34 .file-refusal .ensures) (c33 .if1 .left) (c23 .read-sections .result) tables
+    (c23 .read-sections .ensures)) (u .0 .0) (u .1) in
+    (omega (arith, holds .held), omega (arith, holds .few))
+
+returns-2 : tie.Need-returns-2
+returns-2 c =
+    let c20 = c .before .before .before .before .before .before .before .before .before .before .before .before .before .before .before .before .before .before .before .before in
+    let c25 = c20 .before .before .before .before .before in
+    let c26 = c25 .before in
+    let c36 = c26 .before .before .before .before .before .before .before .before .before .before in
+    let c37 = c36 .before in
+    let c56 = c37 .before .before .before .before .before .before .before .before .before .before .before .before .before .before .before .before .before .before .before in
+    let c75 = c56 .before .before .before .before .before .before .before .before .before .before .before .before .before .before .before .before .before .before .before in
+    let c76 = c75 .before in
+    let a = c76 .args in
+    let last = c56 .clear-all .last in
+    let last2 = c26 .read-sections .last in
+    let lent = words (a .records .now) (a .handlers .now) (a .pool .now) (a .symbols .now) (a .strings .now) (a .names .now) (a .filenames .now) (a .files .now) (a .lines .now) in
+    let left =
+    words (last .0) (last .1 .0) (last .1 .1 .0) (last .1 .1 .1 .0) (last .1 .1 .1 .1 .0) (last .1 .1 .1 .1 .1 .0) (last .1 .1 .1 .1 .1 .1 .0)
+    (last .1 .1 .1 .1 .1 .1 .1 .0) (last .1 .1 .1 .1 .1 .1 .1 .1 .0) in
+    let tables =
+    words (last2 .1 .1 .0) (last2 .1 .1 .1 .0) (last2 .1 .1 .1 .1 .0) (last2 .1 .1 .1 .1 .1 .0) (last2 .1 .1 .1 .1 .1 .1 .0) (last2 .1 .1 .1 .1 .1 .1 .1 .0)
+    (last2 .1 .1 .1 .1 .1 .1 .1 .1 .0) (last2 .1 .1 .1 .1 .1 .1 .1 .1 .1 .0) (last2 .1 .1 .1 .1 .1 .1 .1 .1 .1 .1 .0) in
+    let linked = c .before .before .link-parents in
+    let u = c .before .before .before .before .before .before .u .given in
+    ap (λ t. loadedOf (loaded-is.Rows (u .0 .0)) (words t (last2 .1 .1 .1 .0) (last2 .1 .1 .1 .1 .0) (last2 .1 .1 .1 .1 .1 .0) (last2 .1 .1 .1 .1 .1 .1 .0) (last2 .1 .1 .1 .1 .1 .1 .1 .0)
+    (last2 .1 .1 .1 .1 .1 .1 .1 .1 .0) (last2 .1 .1 .1 .1 .1 .1 .1 .1 .1 .0) (last2 .1 .1 .1 .1 .1 .1 .1 .1 .1 .1 .0))) (linked .ensures)
+    ∙ load-went (a .f .now) (λ i. omega (arith, c75 .shared-slice-known .given i)) lent left tables
+    (zero-words lent (last .0) (last .1 .0) (last .1 .1 .0) (last .1 .1 .1 .0) (last .1 .1 .1 .1 .0) (last .1 .1 .1 .1 .1 .0) (last .1 .1 .1 .1 .1 .1 .0)
+    (last .1 .1 .1 .1 .1 .1 .1 .0) (last .1 .1 .1 .1 .1 .1 .1 .1 .0) (c56 .clear-all .ensures)) (c26 .read-sections .result)
+    (file-read (a .f .now) 1024 left (c37 .file-refusal .result) (c37 .file-refusal .ensures) (c36 .if1 .left) (c26 .read-sections .result) tables
+    (c26 .read-sections .ensures)) (u .0 .0) (u .1)
 
 same-length-19 : tie.Need-same-length-19
 same-length-19 c =
@@ -283,6 +325,8 @@ load-spec =
     returns
     read-sections-requires
     (λ c. search needs)
+    (λ c. search needs)
+    link-parents-requires
     (λ c. search needs)
     (λ c κs. search needs)
     same-length-10

@@ -8,6 +8,7 @@ use Rattle.run.proofs.Steps.{sizes, held-none, inside, row-fits, top-st
 use borrow.Author.Needs.{needs}
 use Rattle.run.proofs.one_step.Statement.{statement}
 use Rattle.run.proofs.one_step.Tie as tie
+use Rattle.format.specs.Rows.{recordWidth}
 
 returns : tie.Need-returns
 returns c =
@@ -69,7 +70,7 @@ child-at-requires c κs =
         arith,
         into-small q (c8 .if1 .left) (c6 .word .ensures .0) (c4 .word2 .ensures .0) (choiceOf (c14 .args .choice)) _ _
             (ap moveOf (sym (c .before .child .given .1)) ∙ c3 .move-in .ensures) .1,
-        c12 .shared-slice-known2 .given (c6 .word .result * 19 + 3),
+        c12 .shared-slice-known2 .given (c6 .word .result * recordWidth + 3),
       ),
     )
 
