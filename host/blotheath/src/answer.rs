@@ -1,5 +1,7 @@
 //! The structs that cross the C boundary, as include/blotheath.h declares them.
 
+use crate::tables::RECORD_WORDS;
+
 /// The rows used of the nine tables and the visits of the LVAR walk, or a refusal.
 #[repr(C)]
 #[derive(Debug, Clone, Copy, PartialEq, Default)]
@@ -34,7 +36,15 @@ pub struct BlotheathRecord {
     pub nfiles: u32,
     pub lines: u32,
     pub nlines: u32,
+    pub depth: u32,
+    /// Another record's number, or [`NO_PARENT`].
+    pub parent: u32,
 }
+
+const _: () = assert!(size_of::<BlotheathRecord>() == RECORD_WORDS * size_of::<u32>());
+
+/// The parent of record 0, and of a record that the walk over the numbers of children never reaches.
+pub const NO_PARENT: u32 = 65_535;
 
 /// Where a run stands.
 #[repr(C)]

@@ -1,7 +1,7 @@
 //! The functions of ffi.rs answered by host/model, for work without the archive.
 
 use crate::answer::*;
-use crate::tables::{RECORDS, Words};
+use crate::tables::{RECORD_WORDS, RECORDS, Words};
 use model::{Constant, Sizes};
 
 /// The sizes of lent tables, which are given back empty so that the model's own take their place.
@@ -31,7 +31,8 @@ pub fn load_records(
 ) -> BlotheathLoaded {
     let loaded = load(file, words);
     rows.fill(BlotheathRecord::default());
-    for (row, w) in rows.iter_mut().zip(words[RECORDS].chunks_exact(19)) {
+    let whole = words[RECORDS].chunks_exact(RECORD_WORDS);
+    for (row, w) in rows.iter_mut().zip(whole) {
         *row = BlotheathRecord {
             size: w[0],
             nlocals: w[1],
@@ -52,6 +53,8 @@ pub fn load_records(
             nfiles: w[16],
             lines: w[17],
             nlines: w[18],
+            depth: w[19],
+            parent: w[20],
         };
     }
     loaded

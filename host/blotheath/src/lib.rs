@@ -39,7 +39,7 @@ pub use refusal::Refusal;
 pub use registers::Registers;
 pub use run::{Before, Run};
 pub use step::{BadStep, Kind, Step, Steps};
-pub use tree::{Node, Tree};
+pub use tree::Tree;
 pub use walk::NameWalk;
 
 /// The longest file, in bytes.

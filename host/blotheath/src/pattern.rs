@@ -1,6 +1,6 @@
 //! A loaded pattern: its rows and the seven lookups.
 
-use crate::answer::BlotheathLoaded;
+use crate::answer::{BlotheathLoaded, NO_PARENT};
 use crate::ffi;
 use crate::refusal::Refusal;
 use crate::step::Steps;
@@ -87,6 +87,10 @@ pub struct Record {
     pub names: Span,
     pub files: Span,
     pub lines: Span,
+    /// How many records contain it, one in another; 0 too where it is never reached.
+    pub depth: u32,
+    /// The record that contains it. Record 0 has none, nor has one that is never reached: the numbers of children end before it.
+    pub parent: Option<u32>,
 }
 
 impl Record {
@@ -109,6 +113,8 @@ impl Record {
             names: span(13),
             files: span(15),
             lines: span(17),
+            depth: row[19],
+            parent: (row[20] != NO_PARENT).then_some(row[20]),
         }
     }
 }

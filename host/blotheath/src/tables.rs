@@ -16,8 +16,11 @@ pub const LINES: usize = 8;
 /// The words of the nine tables.
 pub type Words = [Vec<u32>; 9];
 
+/// The words of a record's row.
+pub const RECORD_WORDS: usize = 21;
+
 /// The words of one row of each table.
-pub const ROW_WORDS: [usize; 9] = [19, 4, 3, 2, 2, 1, 2, 4, 2];
+pub const ROW_WORDS: [usize; 9] = [RECORD_WORDS, 4, 3, 2, 2, 1, 2, 4, 2];
 
 /// The largest number of records.
 pub const RECORD_LIMIT: usize = 1_024;

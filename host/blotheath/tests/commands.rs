@@ -65,7 +65,8 @@ fn the_sample() {
     assert!(ran.out.ends_with(counts), "{}", ran.out);
     let ran = run(&["steps", path_of(&sample)]);
     assert!(
-        ran.out.contains("record 3, method rim (43 bytes, at 493"),
+        ran.out
+            .contains("\nrecord 3, method rim, inside 1, depth 2 (43 bytes, at 493"),
         "{}",
         ran.out
     );
@@ -88,7 +89,8 @@ fn the_sample() {
     );
     let ran = run(&["follow", path_of(&sample), "7 go", "enter", "go"]);
     assert!(
-        ran.out.contains("  ▶ record 1, offset 2, line 6"),
+        ran.out
+            .contains("  ▶ record 1, offset 2, line 6, inside 0, depth 1"),
         "{}",
         ran.out
     );
@@ -100,7 +102,8 @@ fn the_sample() {
         "00",
     ]);
     assert!(
-        ran.out.contains("  ▶ record 1, offset 2, line 6"),
+        ran.out
+            .contains("  ▶ record 1, offset 2, line 6, inside 0, depth 1"),
         "{}",
         ran.out
     );

@@ -33,7 +33,7 @@ static const uint8_t file[64] = {
 static uint32_t visits_of(uint16_t children) {
     static const uint8_t lvar[12] = {'L', 'V', 'A', 'R', 0, 0, 0, 12, 0, 0, 0, 0};
     uint8_t walked[sizeof file + sizeof lvar];
-    uint32_t records[19];
+    uint32_t records[BLOTHEATH_RECORD_WORDS];
     memcpy(walked, file, END);
     memcpy(walked + END, lvar, sizeof lvar);
     memcpy(walked + END + sizeof lvar, file + END, sizeof file - END);
@@ -45,7 +45,7 @@ static uint32_t visits_of(uint16_t children) {
 /* What an examination of the file answers with ADD of a register in the place of LOADNIL. */
 static uint32_t examined_adding(uint8_t a) {
     uint8_t changed[sizeof file];
-    uint32_t records[19];
+    uint32_t records[BLOTHEATH_RECORD_WORDS];
     memcpy(changed, file, sizeof changed);
     changed[CODE] = 69;
     changed[CODE + 1] = a;
@@ -70,8 +70,9 @@ static const uint8_t definition[89] = {
     'E', 'N', 'D', 0, 0, 0, 0, 8,
 };
 
-/* The place of TDEF's third operand. */
+/* The place of TDEF's third operand, and of the first record's number of children. */
 #define CHILD 51
+#define DEFINITION_CHILDREN 40
 
 /* The choice to enter a child. */
 static const uint8_t enter[1] = {2};
@@ -97,7 +98,7 @@ static const uint8_t go_on[3] = {0, 0, 0};
 /* What an examination of the record answers with another byte at an offset of its instructions. */
 static uint32_t examined_with(size_t offset, uint8_t byte) {
     uint8_t changed[sizeof prefixed];
-    uint32_t records[19];
+    uint32_t records[BLOTHEATH_RECORD_WORDS];
     memcpy(changed, prefixed, sizeof changed);
     changed[PREFIXED_CODE + offset] = byte;
     return blotheath_examine(LENT(changed), LENT(records), NONE, NONE, NONE, NONE, NONE, NONE, NONE, NONE).refusal;
@@ -105,7 +106,7 @@ static uint32_t examined_with(size_t offset, uint8_t byte) {
 
 /* Where a run of the record stands after so many choices. */
 static uint32_t gone_to(size_t choices) {
-    uint32_t records[19], frames[2];
+    uint32_t records[BLOTHEATH_RECORD_WORDS], frames[2];
     BlotheathFollowed at = blotheath_follow(LENT(prefixed), LENT(records), NONE, NONE, NONE, NONE, NONE, NONE, NONE, NONE,
                                             LENT(frames), go_on, choices);
     return at.refusal == 0 ? at.offset : UINT32_MAX;
@@ -123,8 +124,35 @@ static void hold_prefixes(void) {
     hold(fetched.refusal == 0 && fetched.kind == 0, "a prefix is fetched by itself");
 }
 
+/* Depth and parent of the second record where the first has so many children, in the struct and in the words. */
+static void hold_parent(uint16_t children, uint32_t depth, uint32_t parent, const char *what) {
+    uint8_t changed[sizeof definition];
+    uint32_t records[2 * BLOTHEATH_RECORD_WORDS], symbols[2];
+    const uint32_t *second = records + BLOTHEATH_RECORD_WORDS;
+    BlotheathRecord rows[3];
+    memcpy(changed, definition, sizeof changed);
+    changed[DEFINITION_CHILDREN] = children >> 8;
+    changed[DEFINITION_CHILDREN + 1] = children & 255;
+    BlotheathLoaded loaded = blotheath_load_records(LENT(changed), LENT(records), NONE, NONE, LENT(symbols), NONE, NONE, NONE, NONE, NONE,
+                                                    LENT(rows));
+    hold(loaded.refusal == 0 && loaded.records == 2, "two records load");
+    hold(rows[0].depth == 0 && rows[0].parent == BLOTHEATH_NO_PARENT, "record 0 has no parent");
+    hold(rows[1].depth == depth && rows[1].parent == parent, what);
+    hold(second[BLOTHEATH_RECORD_WORDS - 2] == depth && second[BLOTHEATH_RECORD_WORDS - 1] == parent, "the words say the same");
+    hold(rows[2].depth == 0 && rows[2].parent == 0, "a row past the last record is zeros");
+    hold(blotheath_load_records(LENT(changed), NO_TABLES, LENT(rows)).refusal == 14, "without tables it is refused");
+    hold(rows[1].depth == 0 && rows[1].parent == 0, "a refused load leaves zeros");
+}
+
+static void hold_parents(void) {
+    hold(sizeof(BlotheathRecord) == BLOTHEATH_RECORD_WORDS * sizeof(uint32_t), "a row's struct is its words");
+    hold_parent(1, 1, 0, "the child of record 0");
+    hold_parent(65535, 1, 0, "more children than there are");
+    hold_parent(0, 0, BLOTHEATH_NO_PARENT, "a record that is never reached");
+}
+
 int main(void) {
-    uint32_t records[2 * 19], pool[6], symbols[2], frames[2 * 2];
+    uint32_t records[2 * BLOTHEATH_RECORD_WORDS], pool[6], symbols[2], frames[2 * 2];
     BlotheathRecord row[1];
     uint8_t other[sizeof file] = {0}, missing[sizeof definition];
 
@@ -181,6 +209,7 @@ int main(void) {
     hold(examined_adding(1) == 17, "ADD touches the register behind the last one");
 
     hold_prefixes();
+    hold_parents();
     hold(blotheath_fetch(NONE).refusal == 24, "an instruction of no bytes");
     hold(blotheath_fetch(file + code.place, code.length).a == 1, "an instruction");
     hold(blotheath_line_at(NONE, 0).found == 0, "a map without entries");

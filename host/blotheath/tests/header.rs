@@ -2,7 +2,8 @@
 
 mod common;
 
-use blotheath::tables::{rows, usual};
+use blotheath::answer::NO_PARENT;
+use blotheath::tables::{RECORD_WORDS, ROW_WORDS, rows, usual};
 use blotheath::{LOAD_STACK, Opcode, Refusal, STACK};
 use common::Folder;
 use std::fs;
@@ -33,6 +34,22 @@ fn every_refusal_stands_in_the_header_once() {
         let is_known = Refusal::all().any(|refusal| refusal.number() == number);
         assert_eq!(told(&header, number), usize::from(is_known), "{number}");
     }
+}
+
+/// The header tells the words of each kind of row, those of records twice: in its table and as a macro.
+#[test]
+fn the_widths_are_those_of_the_host() {
+    let header = header();
+    for (name, words) in model::NAMES.iter().zip(ROW_WORDS) {
+        let start = format!("   {}, {words}: ", name.replace('_', ""));
+        assert!(
+            header.lines().any(|line| line.starts_with(&start)),
+            "{start}"
+        );
+    }
+    assert!(header.contains(&format!("#define BLOTHEATH_RECORD_WORDS {RECORD_WORDS}\n")));
+    assert!(header.contains(&format!("#define BLOTHEATH_NO_PARENT {NO_PARENT}\n")));
+    assert_eq!(ROW_WORDS, model::ROW_WORDS);
 }
 
 #[test]

@@ -14,8 +14,8 @@ fn every_row_of_a_real_file_can_be_looked_up() {
         let Ok(pattern) = load(&file) else {
             continue;
         };
-        let tree = Tree::of(&pattern);
-        assert_eq!(tree.nodes.len(), pattern.counts().records as usize);
+        let records = pattern.counts().records;
+        assert_eq!(pattern.records().count(), records as usize);
         for (number, record) in (0..).zip(pattern.records()) {
             let code = pattern.instructions(number).unwrap();
             assert_eq!(code.bytes.len(), record.ilen as usize);
@@ -38,8 +38,8 @@ fn every_row_of_a_real_file_can_be_looked_up() {
             assert_eq!(pattern.handler(number, record.clen), Err(Refusal(22)));
             assert_eq!(pattern.name(number, record.names.number), Err(Refusal(22)));
         }
-        assert!(pattern.record(pattern.counts().records).is_none());
-        assert_eq!(pattern.line(pattern.counts().records, 0), Err(Refusal(22)));
+        assert!(pattern.record(records).is_none());
+        assert_eq!(pattern.line(records, 0), Err(Refusal(22)));
     }
 }
 

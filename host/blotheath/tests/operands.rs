@@ -25,9 +25,9 @@ fn steps_show_what_operands_name() {
         "  6  SEND0      R3, :count\n",
         "  9  TDEF       R4, :rim, record 1\n",
         " 13  SDEF       R3, :round, record 3\n",
-        "\nrecord 1, method rim (5 bytes, at 108, 8 registers, 1 child)\n",
-        "\nrecord 2, block (4 bytes, at 133, 8 registers, 0 children)\n",
-        "\nrecord 3, method round (4 bytes, at 157, 8 registers, 0 children)\n",
+        "\nrecord 1, method rim, inside 0, depth 1 (5 bytes, at 108, 8 registers, 1 child)\n",
+        "\nrecord 2, block, inside 1, depth 2 (4 bytes, at 133, 8 registers, 0 children)\n",
+        "\nrecord 3, method round, inside 0, depth 1 (4 bytes, at 157, 8 registers, 0 children)\n",
     ] {
         assert!(steps.out.contains(row), "{row:?} in {}", steps.out);
     }

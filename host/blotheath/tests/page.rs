@@ -408,6 +408,36 @@ fn paper_has_heads_and_numbers_and_the_map() {
     }
 }
 
+/// A record has a link to what contains it: among the steps, in the outline, and in the drawing by the line that leads to it.
+#[test]
+fn records_link_to_what_contains_them() {
+    let folder = Folder::new("inside");
+    let sample = page(&folder, "a.mrb", &sample_bytes());
+    for (record, parent, depth) in [(1, 0, 1), (2, 1, 2), (3, 1, 2), (4, 1, 2), (5, 0, 1)] {
+        let section = between(&sample, &format!("id=\"r{record}\">"), "</h3>");
+        let link = format!("inside <a href=\"#r{parent}\">record {parent}</a>, depth {depth} · ");
+        assert!(section.contains(&link), "{section}");
+        let row = between(
+            &sample,
+            &format!("<span class=\"of\">{record}</span>"),
+            "</li>",
+        );
+        assert!(row.contains(&format!("inside <a href=\"#r{parent}\">{parent}</a>, ")));
+        let line = format!(
+            "<a href=\"#r{parent}\"><title>record {record} is inside record {parent}</title><path "
+        );
+        assert!(sample.contains(&line), "{record}");
+    }
+    let main = between(&sample, "id=\"r0\">", "</h3>");
+    assert!(main.contains(">outermost, depth 0 · ") && !main.contains("<a "));
+    let apart = build::record(0, &[118], &[], &[]).repeat(2);
+    let apart = page(&folder, "a.mrb", &build::file(&[build::irep(&apart)]));
+    let section = between(&apart, "id=\"r1\">", "</h3>");
+    assert!(section.contains(">never reached · ") && !section.contains("<a "));
+    let row = between(&apart, "<span class=\"of\">1</span>", "</li>");
+    assert!(row.contains(">never reached, ") && !apart.contains("is inside record"));
+}
+
 #[test]
 fn records_are_an_outline() {
     let folder = Folder::new("outline");

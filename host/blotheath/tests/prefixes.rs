@@ -33,13 +33,13 @@ fn a_prefix_and_its_opcode_are_one_step() {
         "╭─┬─▶    38  EXT1 JMPNOT     R256 rods, to 48\n",
         "│ ╰──    44  EXT3 JMP        to 38\n",
         "╰───▶    48  EXT2 STOP\n",
-        "\nrecord 257, block (4 bytes, ",
-        "\nrecord 300, method (4 bytes, ",
+        "\nrecord 257, block, inside 0, depth 1 (4 bytes, ",
+        "\nrecord 300, method, inside 0, depth 1 (4 bytes, ",
     ] {
         assert!(steps.out.contains(row), "{row:?} in {}", steps.out);
     }
     // Ten steps, and no others, in record 0; names are wider where there are prefixes.
-    let (first, rest) = steps.out.split_once("\nrecord 1 ").unwrap();
+    let (first, rest) = steps.out.split_once("\nrecord 1, ").unwrap();
     assert_eq!(first.lines().count(), 1 + 2 + 10, "{first}");
     assert!(rest.contains("  0  LOADNIL    R1\n"), "{rest}");
 }

@@ -4,13 +4,13 @@ mod common;
 
 use blotheath::answer::BlotheathRecord;
 use blotheath::ffi;
-use blotheath::tables::{self, RECORDS, ROW_WORDS, Words};
+use blotheath::tables::{self, RECORD_WORDS, RECORDS, Words};
 use common::{Numbers, build, damaged, files, sample_bytes};
 use std::collections::BTreeSet;
 use std::fs;
 
 /// The fields in the order of include/blotheath.h.
-fn words(row: &BlotheathRecord) -> [u32; 19] {
+fn words(row: &BlotheathRecord) -> [u32; RECORD_WORDS] {
     [
         row.size,
         row.nlocals,
@@ -31,8 +31,13 @@ fn words(row: &BlotheathRecord) -> [u32; 19] {
         row.nfiles,
         row.lines,
         row.nlines,
+        row.depth,
+        row.parent,
     ]
 }
+
+/// The words of a row that no record has.
+const ZEROS: [u32; RECORD_WORDS] = [0; RECORD_WORDS];
 
 /// Tables and rows that hold garbage before the call.
 fn garbage(file: &[u8], overlap: usize, rows: usize) -> (Words, Vec<BlotheathRecord>) {
@@ -42,6 +47,7 @@ fn garbage(file: &[u8], overlap: usize, rows: usize) -> (Words, Vec<BlotheathRec
         size: 7,
         place: 7,
         nlines: 7,
+        parent: 7,
         ..Default::default()
     };
     (tables, vec![row; rows])
@@ -55,20 +61,20 @@ fn check(file: &[u8], overlap: usize, lent: usize) -> u32 {
     assert_eq!(answer, ffi::load(file, &mut expected));
     assert_eq!(tables, expected);
     assert_eq!(rows.len(), lent);
-    let mut whole = tables[RECORDS].chunks_exact(ROW_WORDS[RECORDS]);
+    let mut whole = tables[RECORDS].chunks_exact(RECORD_WORDS);
     for row in &rows {
         let row = words(row);
         match whole.next() {
             Some(expected) => assert_eq!(row, *expected),
-            None => assert_eq!(row, [0; 19]),
+            None => assert_eq!(row, ZEROS),
         }
     }
     if answer.refusal != 0 {
-        assert!(rows.iter().all(|row| words(row) == [0; 19]));
+        assert!(rows.iter().all(|row| words(row) == ZEROS));
     } else {
         let used = lent.min(answer.rows[RECORDS] as usize);
         assert!(rows[..used].iter().all(|row| row.size != 0));
-        assert!(rows[used..].iter().all(|row| words(row) == [0; 19]));
+        assert!(rows[used..].iter().all(|row| words(row) == ZEROS));
     }
     answer.refusal
 }
@@ -117,10 +123,10 @@ fn rows_behind_the_last_whole_row_are_zeros() {
         let (mut tables, mut rows) = garbage(&file, 1, 8);
         tables[RECORDS].resize(length, 9);
         let answer = ffi::load_records(&file, &mut tables, &mut rows);
-        let whole = length / ROW_WORDS[RECORDS];
-        assert!(rows.iter().skip(whole).all(|row| words(row) == [0; 19]));
+        let whole = length / RECORD_WORDS;
+        assert!(rows.iter().skip(whole).all(|row| words(row) == ZEROS));
         if answer.refusal != 0 {
-            assert!(rows.iter().all(|row| words(row) == [0; 19]));
+            assert!(rows.iter().all(|row| words(row) == ZEROS));
         }
     }
 }

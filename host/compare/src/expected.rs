@@ -1,8 +1,8 @@
-//! The nine tables that follow from the original's answer, and every value that a lookup gives.
+//! The nine tables that follow from the original's answer, but for the depths and parents that it does not know, and every value that a lookup gives.
 
 use crate::oracle::{self, Outcome};
 use crate::subject::{Answer, Subject, first_difference};
-use model::{Constant, ROW_WORDS, Tables};
+use model::{Constant, RECORD_WORDS, ROW_WORDS, TREE_WORDS, Tables};
 use original::rite::rite::{PoolValue, Rite, line_at};
 
 /// Holds a subject's load against the original's.
@@ -50,7 +50,10 @@ fn list(record: &mut Vec<u32>, table: &[u32], words: usize, before: usize) {
     record.extend([first as u32, number as u32]);
 }
 
-/// The used rows of the nine tables; a debug file's name index is taken from the subject where its text is right.
+/// The word of a record's row that has the first of its lines.
+const FIRST_LINE: usize = 17;
+
+/// The used rows of the nine tables; depths and parents are the subject's, and a debug file's name index where its text is right.
 fn rows(file: &[u8], rite: &Rite, answered: &Tables) -> Result<Tables, String> {
     let mut t: Tables = Default::default();
     let mut records: Vec<Vec<u32>> = Vec::new();
@@ -102,6 +105,13 @@ fn rows(file: &[u8], rite: &Rite, answered: &Tables) -> Result<Tables, String> {
     }
     names(file, rite, &mut t, &mut records)?;
     debug(file, rite, answered, &mut t, &mut records)?;
+    // "Loading is compared without these two fields."
+    for (record, row) in records
+        .iter_mut()
+        .zip(answered[0].chunks_exact(RECORD_WORDS))
+    {
+        record.extend(&row[RECORD_WORDS - TREE_WORDS..]);
+    }
     t[0] = records.concat();
     Ok(t)
 }
@@ -285,7 +295,7 @@ fn values(subject: &dyn Subject, file: &[u8], rite: &Rite, tables: &Tables) -> R
                 return wrong("debug file", i);
             }
         }
-        let first = tables[0][r as usize * 19 + 17] as usize * 2;
+        let first = tables[0][r as usize * RECORD_WORDS + FIRST_LINE] as usize * 2;
         let map = &tables[8][first..][..irep.lines.len() * 2];
         let step = irep.lines.len() / 6 + 1;
         let near = irep

@@ -6,9 +6,14 @@ use crate::expected;
 use crate::generate::{FAMILIES, Generator, state_size};
 use crate::held::Held;
 use crate::oracle::{self, OWN_RULE, Outcome};
+use crate::parents;
 use crate::rng::Rng;
 use crate::subject::{Subject, answers_as, subjects};
-use model::{Entry, HEADER, Loaded, NAMES, ROW_WORDS, Record, Refusal, Rows, Sizes, Tables};
+use crate::visits;
+use model::{
+    Entry, HEADER, Loaded, NAMES, NO_PARENT, RECORD_WORDS, ROW_WORDS, Record, Refusal, Rows, Sizes,
+    TREE_WORDS, Tables,
+};
 use original::Error;
 use std::collections::BTreeMap;
 use std::path::PathBuf;
@@ -119,6 +124,16 @@ impl Counts {
             lvar.is_some() && rows.visits < number,
         );
         has("LVAR past the last", rows.visits > number);
+        let children: u64 = records.iter().map(|r| u64::from(r.rlen)).sum();
+        let unreached = || records.iter().skip(1).filter(|r| r.parent == NO_PARENT);
+        has("several records", number > 1);
+        has("unreached records", unreached().next().is_some());
+        has("children of unreached", unreached().any(|r| r.rlen > 0));
+        has(
+            "children past the last",
+            unreached().next().is_none() && children >= number,
+        );
+        has("depth above 2", records.iter().any(|r| r.depth > 2));
         has("passing", model::passes(file, rows).is_ok());
     }
 
@@ -224,6 +239,13 @@ pub fn difference(what: &str, file: &[u8], why: &str) -> Stop {
     ))
 }
 
+/// The files that are stored for their trees.
+fn chosen() -> Vec<Vec<u8>> {
+    let visited = visits::files().into_iter().map(|visited| visited.file);
+    let nested = parents::files().into_iter().map(|nested| nested.file);
+    visited.chain(nested).collect()
+}
+
 /// `compare load`
 pub fn generated(args: &Args) -> Result<(), Stop> {
     args.only(&["--files", "--seed", "--first"])
@@ -242,9 +264,18 @@ pub fn generated(args: &Args) -> Result<(), Stop> {
                 .map_err(|why| difference(name, file, &why))?;
         }
     }
+    let chosen = chosen();
+    if first == 0 {
+        for (number, file) in chosen.iter().enumerate() {
+            let mut rng = Rng::new(seed, number as u64);
+            one(&subjects, file, &mut rng, &mut counts)
+                .map_err(|why| difference(&format!("chosen file {number}"), file, &why))?;
+        }
+    }
     println!(
-        "seed {seed}, {} corpus files, {files} generated",
-        corpus.len()
+        "seed {seed}, {} corpus files, {} chosen, {files} generated",
+        corpus.len(),
+        chosen.len()
     );
     let generator = Generator {
         corpus: corpus.into_iter().map(|(_, file)| file).collect(),
@@ -424,6 +455,10 @@ pub fn one(
                 answer.visits
             ));
         }
+        if number == 0 {
+            tree_words(&tables, &reading.rows.records.rows)
+                .map_err(|why| format!("{name} and the model: {why}"))?;
+        }
         if let (Some(bytes), Some(Outcome::Loaded(rite))) = (bytes, &outcome) {
             expected::compare(&**subject, bytes, rite, &answer, &tables)
                 .map_err(|why| format!("{name} and the original: {why}"))?;
@@ -450,6 +485,23 @@ pub fn one(
     let sizes = other_sizes(needed, rng);
     lent(subjects, file, number, needed, &sizes, rng, counts)?;
     Ok(number)
+}
+
+/// Holds the depth and the parent of each record, which the original does not know, against the model's.
+fn tree_words(tables: &Tables, records: &[Record]) -> Result<(), String> {
+    let rows = tables[0].chunks_exact(RECORD_WORDS);
+    for (number, (record, row)) in records.iter().zip(rows).enumerate() {
+        let (found, right) = (
+            &row[RECORD_WORDS - TREE_WORDS..],
+            [record.depth, record.parent],
+        );
+        if found != right {
+            return Err(format!(
+                "record {number}: depth and parent are {found:?}, not {right:?}"
+            ));
+        }
+    }
+    Ok(())
 }
 
 /// Sizes around those that are needed: none, too short, no multiple of the row, longer.

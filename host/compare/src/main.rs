@@ -15,6 +15,7 @@ mod load;
 mod lookups;
 mod newer;
 mod oracle;
+mod parents;
 #[cfg(feature = "port")]
 mod port;
 mod prefixes;

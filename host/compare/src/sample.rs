@@ -99,3 +99,24 @@ pub fn with_children(first: Vec<u8>, children: u16) -> Vec<u8> {
 pub fn coded(code: &[u8], counts: Counts) -> Vec<u8> {
     with_children(record(code, &[], counts), counts.children)
 }
+
+/// The most children that a record states.
+pub const MOST_CHILDREN: u16 = u16::MAX;
+
+/// Records with so many children, which have no name, and these sections.
+pub fn tree(rlens: &[u16], sections: &[Vec<u8>]) -> Vec<u8> {
+    let bare = |children: &u16| {
+        let counts = Counts {
+            children: *children,
+            ..BARE
+        };
+        record(&[STOP], &[], counts)
+    };
+    let records: Vec<Vec<u8>> = rlens.iter().map(bare).collect();
+    file(&records, sections)
+}
+
+/// An LVAR section without strings.
+pub fn lvar() -> Vec<u8> {
+    exact(b"LVAR", &[0; 4])
+}

@@ -24,8 +24,8 @@
 //!                           a constant's lookup; INT has eight bytes, high byte first, FLOAT eight, low byte first
 //! ```
 //!
-//! The nine tables are records (19 words a row), handlers (4), pool (3), symbols (2), strings (2), names (1),
-//! file_names (2), files (4), lines (2), always in this order; the first has at most 20,000 words, the others 8,192.
+//! The nine tables are those of `model::NAMES`, always in this order, with rows of `model::ROW_WORDS` words. The first has at most three rows more
+//! than 1,024, the others 8,192 words.
 //! A frame table has at most 2,048 words. There are at most 512 words of kind 4. The kinds 0 to 7 are Z, B, BB, S, BBB, BS, W, BSS.
 //! Lookups are numbered from 0: instructions, handler, pool, symbol, name, debug file, line.
 //! The sum begins with 0; for each word w, table by table, it becomes (sum * 65599 + w + 1) modulo 4294967291.
@@ -49,21 +49,28 @@ use crate::lines;
 use crate::load::{ANSWERS, Counts, corpus, garbage, one, other_sizes};
 use crate::lookups;
 use crate::oracle::{self, NO_ROW, Outcome, TOO_LONG};
+use crate::parents;
 use crate::rng::Rng;
 use crate::sample::{Examined, FINISHED, Run, stands_at};
 use crate::subject::{Answer, Fetch, Follow, Found, LOOKUPS, Lookup, Model, Subject, subjects};
 use crate::visits;
-use model::{FILE_LIMIT, HEADER, OPCODES, ROW_WORDS, Refusal, Sizes, Tables};
+use model::{
+    FILE_LIMIT, HEADER, OPCODES, RECORD_LIMIT, RECORD_WORDS, ROW_WORDS, Refusal, Sizes, Tables,
+};
 use original::rite::rite::line_at;
 use std::collections::BTreeMap;
 use std::fs;
 
 /// The most bytes of a generated file, but for those at a limit.
 const LONGEST: usize = 700;
-/// The most words of each lent table.
-const MOST: [usize; 9] = [
-    20_000, 8_192, 8_192, 8_192, 8_192, 8_192, 8_192, 8_192, 8_192,
-];
+/// The most rows that are lent of a table beside those that a file needs.
+const MORE_ROWS: usize = 3;
+/// The most words of each lent table: records for the most that a file may have, and more.
+const MOST: [usize; 9] = {
+    let mut most = [8_192; 9];
+    most[RECORDS] = (RECORD_LIMIT + MORE_ROWS) * RECORD_WORDS;
+    most
+};
 /// The numbers of the tables that samples use.
 const RECORDS: usize = 0;
 const POOL: usize = 2;
@@ -88,6 +95,7 @@ pub fn write(args: &Args) -> Result<(), Stop> {
     samples(&mut calls).map_err(Stop::Difference)?;
     chosen_samples(&mut calls).map_err(Stop::Difference)?;
     visited_samples(&mut calls).map_err(Stop::Difference)?;
+    nested_samples(&mut calls).map_err(Stop::Difference)?;
     loads(&mut calls, seed, count as usize, &mut counts).map_err(Stop::Difference)?;
     examinable_files(&mut calls, seed)?;
     let mut lookups = Store::default();
@@ -368,27 +376,52 @@ fn sample_examinations(store: &mut Store, files: &[Examined]) -> Result<(), Stri
 /// Loads and examinations of files with an LVAR section, with the visits of request m).
 fn visited_samples(store: &mut Store) -> Result<(), String> {
     for visited in visits::files() {
-        let file = &visited.file;
-        let reading = model::read(file, [usize::MAX; 9]);
         let right = Answer {
             refusal: 0,
             rows: of_records(visited.records),
             visits: visited.visits,
         };
-        let sizes = Sizes::of_rows([visited.records.max(1) as usize, 0, 0, 0, 0, 0, 0, 0, 0]);
-        sample_over(store, 2, &sizes, file, right)?;
-        let examined = match model::passes(file, &reading.rows) {
-            Ok(()) => right,
-            Err(refusal) => Answer {
-                refusal,
-                rows: [0; 9],
-                visits: 0,
-            },
-        };
-        sample_again(store, 7, &sizes, file, examined)?;
+        tree_sample(store, &visited.file, visited.records.max(1), right)?;
     }
     store.bytes(6, b"visits of the LVAR walk");
     Ok(())
+}
+
+/// Loads and examinations of trees of every shape, with the depths and parents of request a), and a row that no record uses.
+fn nested_samples(store: &mut Store) -> Result<(), String> {
+    for nested in parents::files() {
+        let rows = model::read(&nested.file, [usize::MAX; 9]).rows;
+        let records = rows.records.rows.iter();
+        let places: Vec<[u32; 2]> = records.map(|r| [r.depth, r.parent]).collect();
+        if places != nested.places {
+            return Err(format!("a sample's depths and parents are {places:?}"));
+        }
+        let used = places.len() as u32;
+        let right = Answer {
+            refusal: 0,
+            rows: of_records(used),
+            visits: rows.visits as u32,
+        };
+        tree_sample(store, &nested.file, used + 1, right)?;
+    }
+    store.bytes(6, b"depths and parents");
+    Ok(())
+}
+
+/// A file that has nothing but records and names, loaded and examined over so many rows of records.
+fn tree_sample(store: &mut Store, file: &[u8], records: u32, right: Answer) -> Result<(), String> {
+    let sizes = Sizes::of_rows(of_records(records).map(|rows| rows as usize));
+    sample_over(store, 2, &sizes, file, right)?;
+    let rows = model::read(file, [usize::MAX; 9]).rows;
+    let examined = match model::passes(file, &rows) {
+        Ok(()) => right,
+        Err(refusal) => Answer {
+            refusal,
+            rows: [0; 9],
+            visits: 0,
+        },
+    };
+    sample_again(store, 7, &sizes, file, examined)
 }
 
 /// A load or an examination over tables of one row each, without LVAR: the refusal's number or 0, and the rows.
@@ -489,7 +522,7 @@ fn loads(store: &mut Store, seed: u64, count: usize, counts: &mut Counts) -> Res
             .iter()
             .zip(model::ROW_WORDS)
             .zip(MOST)
-            .any(|((n, row), most)| (n + 3) * row > most)
+            .any(|((n, row), most)| (n + MORE_ROWS) * row > most)
         {
             continue;
         }

@@ -1,7 +1,7 @@
 //! Files with an LVAR section over trees of every shape, and the visits of request m) of paper 02.
 
 use crate::generate::{be2, exact};
-use crate::sample::{BARE, Counts, STOP, file, record};
+use crate::sample::{MOST_CHILDREN, lvar, tree};
 use model::RECORD_LIMIT;
 
 /// A file, how many records it has, and how many visits its LVAR walk makes.
@@ -11,29 +11,8 @@ pub struct Visited {
     pub visits: u32,
 }
 
-/// The most children that a record states.
-const MOST_CHILDREN: u16 = u16::MAX;
-
 /// The records of a chain.
 const CHAIN: usize = 64;
-
-/// Records with so many children, which have no name, and these sections.
-fn tree(rlens: &[u16], sections: &[Vec<u8>]) -> Vec<u8> {
-    let bare = |children: &u16| {
-        let counts = Counts {
-            children: *children,
-            ..BARE
-        };
-        record(&[STOP], &[], counts)
-    };
-    let records: Vec<Vec<u8>> = rlens.iter().map(bare).collect();
-    file(&records, sections)
-}
-
-/// An LVAR section without strings.
-fn lvar() -> Vec<u8> {
-    exact(b"LVAR", &[0; 4])
-}
 
 /// A DBG section without file names, which its first visit finds used up.
 fn dbg() -> Vec<u8> {

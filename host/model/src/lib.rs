@@ -1,4 +1,5 @@
-//! Paper 01 and requests b), c), d), e), g) and j) of paper 02 as plain Rust: slow, readable, without any `unsafe`. Opcode names and operand kinds are those of insn.rs.
+//! Paper 01 and requests a) to e), g), j) and m) of paper 02 as plain Rust: slow, readable, without any `unsafe`. Opcode names and operand kinds are
+//! those of insn.rs.
 //!
 //! Comments in quotation marks are the papers' own words.
 //! A refusal is its number; 0 stands for none where a number is answered.
@@ -25,8 +26,8 @@ pub use lookup::{
 };
 pub use registers::{Registers, last_register, registers};
 pub use rows::{
-    DebugFile, Entry, Handler, Loaded, NAMES, Name, PoolRow, ROW_WORDS, Record, Rows, Sizes, Span,
-    Table, Tables, Text,
+    DebugFile, Entry, Handler, Loaded, NAMES, Name, PoolRow, RECORD_WORDS, ROW_WORDS, Record, Rows,
+    Sizes, Span, TREE_WORDS, Table, Tables, Text,
 };
 
 /// A refusal's number.
@@ -43,3 +44,6 @@ pub const RECORD_LIMIT: usize = 1_024;
 
 /// A name index that stands for no name.
 pub const UNNAMED: u32 = 65_535;
+
+/// The parent of a record that has none.
+pub const NO_PARENT: u32 = 65_535;

@@ -4,7 +4,7 @@ use crate::line::packed;
 use crate::rows::{
     DebugFile, Entry, Handler, Loaded, Name, PoolRow, Record, Rows, Sizes, Span, Text,
 };
-use crate::{FILE_LIMIT, HEADER, Refusal, UNNAMED};
+use crate::{FILE_LIMIT, HEADER, NO_PARENT, Refusal, UNNAMED};
 
 /// What was read, and how the reading ended.
 #[derive(Debug, Clone, PartialEq, Eq)]
@@ -27,6 +27,9 @@ pub fn load(file: &[u8], lent: &Sizes) -> Loaded {
 pub fn read(file: &[u8], lent: [usize; 9]) -> Reading {
     let mut rows = Rows::lent(lent);
     let end = read_file(file, &mut rows);
+    if end.is_ok() {
+        place_in_tree(0, 0, NO_PARENT, &mut rows.records.rows);
+    }
     Reading { rows, end }
 }
 
@@ -207,6 +210,9 @@ fn read_record(file: &[u8], start: usize, rows: &mut Rows) -> Result<usize, Refu
         names: Span::default(),
         files: Span::default(),
         lines: Span::default(),
+        // "records that the walk never reaches have parent 65535 and depth 0"
+        depth: 0,
+        parent: NO_PARENT,
     };
     // "A record's row is needed once its 16 bytes are read"
     let number = rows.records.rows.len();
@@ -347,6 +353,25 @@ fn walk(
 enum Visit {
     Read,
     ReadNothing,
+}
+
+/// Visits a record and then its children in turn, and gives each its depth and its parent; answers the record that comes next.
+fn place_in_tree(number: usize, depth: u32, parent: u32, records: &mut [Record]) -> usize {
+    // "a visit past the last record reads nothing"
+    let Some(record) = records.get_mut(number) else {
+        return number;
+    };
+    (record.depth, record.parent) = (depth, parent);
+    let children = record.rlen;
+    let mut next = number + 1;
+    for _ in 0..children {
+        // All visits that are left go past the last record.
+        if next == records.len() {
+            break;
+        }
+        next = place_in_tree(next, depth + 1, number as u32, records);
+    }
+    next
 }
 
 fn rlens(rows: &Rows) -> Vec<u32> {

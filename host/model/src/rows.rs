@@ -15,8 +15,12 @@ pub const NAMES: [&str; 9] = [
     "lines",
 ];
 
+/// The words of a record's row, and how many of them, the last, say its place in the tree: its depth and its parent.
+pub const RECORD_WORDS: usize = 21;
+pub const TREE_WORDS: usize = 2;
+
 /// The words of one row of each table.
-pub const ROW_WORDS: [usize; 9] = [19, 4, 3, 2, 2, 1, 2, 4, 2];
+pub const ROW_WORDS: [usize; 9] = [RECORD_WORDS, 4, 3, 2, 2, 1, 2, 4, 2];
 
 /// The words of the nine tables.
 pub type Tables = [Vec<u32>; 9];
@@ -98,7 +102,7 @@ pub trait Words {
     fn words(&self) -> Vec<u32>;
 }
 
-/// "Record: its six header fields, instruction place, first row and number of its" six lists.
+/// "Record: its six header fields, instruction place, first row and number of its" six lists, and "its depth and its parent's index".
 #[derive(Debug, Clone, Copy, PartialEq, Eq)]
 pub struct Record {
     pub size: u32,
@@ -114,6 +118,9 @@ pub struct Record {
     pub names: Span,
     pub files: Span,
     pub lines: Span,
+    pub depth: u32,
+    /// Another record's number, or [`NO_PARENT`](crate::NO_PARENT).
+    pub parent: u32,
 }
 
 impl Words for Record {
@@ -137,6 +144,7 @@ impl Words for Record {
         ] {
             words.extend([span.first, span.number]);
         }
+        words.extend([self.depth, self.parent]);
         words
     }
 }

@@ -141,7 +141,7 @@ fn lookups_answer_throughout() {
         let loaded = load(&file, &exact(&file));
         let t = &loaded.tables;
         for r in 0..loaded.rows[0] {
-            let row = &t[0][r as usize * 19..][..19];
+            let row = &t[0][r as usize * RECORD_WORDS..][..RECORD_WORDS];
             assert!(instructions(&file, t, r).is_ok(), "{name}");
             assert!((0..row[8]).all(|i| handler(t, r, i).is_ok()), "{name}");
             assert!((0..row[10]).all(|i| pool(&file, t, r, i).is_ok()), "{name}");

@@ -114,9 +114,11 @@ fn file_a_loads() {
     let loaded = load(&file_a(), &enough());
     assert_eq!(loaded.refusal, 0);
     assert_eq!(loaded.rows, [1, 0, 0, 0, 0, 0, 0, 0, 0]);
-    let row = [24, 1, 2, 0, 0, 4, 48, 0, 0, 0, 0, 0, 0, 0, 0, 0, 0, 0, 0];
-    assert_eq!(loaded.tables[0][..19], row);
-    assert!(loaded.tables[0][19..].iter().all(|w| *w == 0));
+    let lists = [0; 12];
+    let row = [&[24, 1, 2, 0, 0, 4, 48], &lists[..], &[0, NO_PARENT]].concat();
+    let (first, others) = loaded.tables[0].split_at(RECORD_WORDS);
+    assert_eq!(first, row);
+    assert!(others.iter().all(|w| *w == 0));
     assert!(loaded.tables[1..].iter().flatten().all(|w| *w == 0));
     assert_eq!(examined(&file_a()), 0);
 }
@@ -826,8 +828,11 @@ fn every_table() {
     let t = &loaded.tables;
     assert_eq!(t[0][1..6], [3, 4, 1, 2, 1]);
     assert_eq!(t[0][6], 48);
-    assert_eq!(t[0][7..19], [0, 2, 0, 6, 0, 2, 0, 2, 0, 2, 0, 4]);
-    assert_eq!(t[0][19 + 7..38], [0, 0, 0, 0, 2, 1, 2, 1, 2, 1, 4, 2]);
+    let mut rows = t[0].chunks(RECORD_WORDS).map(|row| &row[7..]);
+    let first = [0, 2, 0, 6, 0, 2, 0, 2, 0, 2, 0, 4, 0, NO_PARENT];
+    assert_eq!(rows.next(), Some(&first[..]));
+    let second = [0, 0, 0, 0, 2, 1, 2, 1, 2, 1, 4, 2, 1, 0];
+    assert_eq!(rows.next(), Some(&second[..]));
     assert_eq!(t[1][..8], [1, 2, 3, 0, 4, 5, 6, 0]);
     let kinds: Vec<u32> = t[2][..18].chunks(3).map(|row| row[0]).collect();
     assert_eq!(kinds, [0, 1, 2, 3, 5, 7]);

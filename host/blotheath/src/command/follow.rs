@@ -4,6 +4,7 @@ use super::beside::{self, Beside};
 use super::choices::{self, Choices, told};
 use super::json::Json;
 use super::meaning::{Meaning, Reader, registers_member, touched};
+use super::nesting;
 use super::source::Source;
 use super::style::Style;
 use super::text::{self, counted};
@@ -215,6 +216,9 @@ fn ask(
     Ok(Status::Passed)
 }
 
+/// The columns that a frame's place has before its step.
+const PLACE_COLUMNS: usize = 50;
+
 /// Shows frames.
 struct View<'w, 'p, 'a> {
     out: &'w mut dyn Write,
@@ -251,7 +255,7 @@ impl<'w, 'p, 'a> View<'w, 'p, 'a> {
         Ok(())
     }
 
-    /// A frame in one line: where it stands, the instruction there, and the source's line.
+    /// A frame in one line: where it stands, what contains its record, the instruction there, and the source's line.
     fn frame(&self, frame: Frame, is_top: bool) -> String {
         let pattern = self.reader.pattern;
         let line = match pattern.line(frame.record, frame.offset) {
@@ -262,9 +266,12 @@ impl<'w, 'p, 'a> View<'w, 'p, 'a> {
             Some(step) => self.step(frame.record, &step),
             None => String::new(),
         };
-        let place = format!("record {}, offset {}, {line}", frame.record, frame.offset);
+        let mut place = format!("record {}, offset {}, {line}", frame.record, frame.offset);
+        if let Some(record) = pattern.record(frame.record) {
+            place += &format!(", {}", nesting::told(frame.record, &record));
+        }
         let mark = if is_top { "▶" } else { " " };
-        let mut text = format!("  {mark} {place:<36} {step}");
+        let mut text = format!("  {mark} {place:<PLACE_COLUMNS$} {step}");
         if let Some(beside) = &self.beside {
             let width = text.chars().count();
             text += &beside.behind(width, frame.record, frame.offset, text::LINE);
@@ -532,6 +539,9 @@ fn write_frame(
     frame: Frame,
 ) -> io::Result<()> {
     json.key("record")?.number(frame.record)?;
+    if let Some(record) = pattern.record(frame.record) {
+        nesting::members(json, &record)?;
+    }
     json.key("offset")?.number(frame.offset)?;
     json.key("line")?.optional(line(pattern, frame)?)?;
     if let Some(step) = pattern.step_at(frame) {

@@ -30,6 +30,10 @@ as it claims to have, past the last record too: in what a compiler writes, one v
 never reaches have no names; visits that go far beyond the records are told, since other programs may take long to make
 them. In JSON \"visits\" is their number, \"name_walk\" the sentence.
 
+Each record has its depth, which is how many records contain it, one in another, and its parent, the innermost of them.
+Record 0 has depth 0 and no parent. So has a record that is never reached: those before it claim too few children. No
+parent is - in the table, and null in JSON.
+
 Text is escaped; a zero byte, which a constant may have inside, is \\0, or \\x00 before a digit from 0 to 7. Up to
 65,536 rows of a kind are shown, as many as a file without overlapping records can have, and up to 48 bytes of a text,
 on a terminal as in a pipe; --all shows every row, and every text whole. Loading does not examine: exit status 0 says
@@ -49,15 +53,17 @@ Examples
 const STEPS: &str = "\
 blotheath steps FILE [--source SOURCE.rb] [--json] [--all]
 
-Each instruction of each record: its offset, name, operands with their meaning, and source line. Jumps are drawn in the
-margin. A prefix is one step with the opcode behind it, and the step's offset is the prefix's: EXT1 widens the first operand
-to two bytes, EXT2 the second, EXT3 both. In JSON \"prefix\" is the prefix's byte, or null. Where a step touches more registers
-than its operands name, as ADD R4 also touches R5, they stand behind the operands: touches R4..R5. In JSON \"registers\" has
-all that a step touches, as pairs of the first and the last: [[4,5]]. A file that loads but does not pass is shown as far as
-it can be read, and the exit status is 1. Up to 65,536 steps are shown, as many as a file without overlapping records can
-have, and up to 48 bytes of a text (256 in JSON, where a constant that is cut has its \"length\" and the number of its
-\"zeros\"); --all shows every step, and every text whole. The lines of SOURCE.rb are shown beside the steps of the debug
-files of that name, and where there is no such file that is told; nothing proves that it is the source of the pattern.
+Each instruction of each record: its offset, name, operands with their meaning, and source line. A record's head tells where
+it stands among the others: inside 1, depth 2 for one that record 1 contains, outermost for record 0, never reached for any
+other that none contains. In JSON each record has \"depth\", and \"parent\", null for none. Jumps are drawn in the margin. A
+prefix is one step with the opcode behind it, and the step's offset is the prefix's: EXT1 widens the first operand to two
+bytes, EXT2 the second, EXT3 both. In JSON \"prefix\" is the prefix's byte, or null. Where a step touches more registers than
+its operands name, as ADD R4 also touches R5, they stand behind the operands: touches R4..R5. In JSON \"registers\" has all
+that a step touches, as pairs of the first and the last: [[4,5]]. A file that loads but does not pass is shown as far as it
+can be read, and the exit status is 1. Up to 65,536 steps are shown, as many as a file without overlapping records can have,
+and up to 48 bytes of a text (256 in JSON, where a constant that is cut has its \"length\" and the number of its \"zeros\");
+--all shows every step, and every text whole. The lines of SOURCE.rb are shown beside the steps of the debug files of that
+name, and where there is no such file that is told; nothing proves that it is the source of the pattern.
 
 Examples
     blotheath steps oval.mrb
@@ -68,7 +74,8 @@ Examples
 const FOLLOW: &str = "\
 blotheath follow FILE [CHOICE..] [--each] [--source SOURCE.rb] [--json]
 
-Runs a file that passes, from its first instruction, along the choices, and shows the frames with their lines.
+Runs a file that passes, from its first instruction, along the choices, and shows the frames with their lines, and where their
+records stand among the others, as `steps` tells it; in JSON each frame has the \"depth\" and the \"parent\" of its record.
     go          goes on: an ending instruction leaves, a jump jumps, others pass to the next
     jump        jumps at JMPIF, JMPNOT, JMPNIL
     enter       enters the child at LAMBDA, BLOCK, METHOD, EXEC, TDEF, SDEF
@@ -93,11 +100,12 @@ Examples
 const REPORT: &str = "\
 blotheath report FILE [-o PAGE.html] [--source SOURCE.rb] [--force]
 
-One page that needs nothing else: the verdict, what is proved and what that rests on, the constants with where they stand
-in the file, the steps beside their source lines, and a picture of the records. The lines of SOURCE.rb are shown beside the
-steps of the debug files of that name; nothing proves that it is the source of the pattern. Without -o the page goes to
-standard output; --output is the same as -o. The page is never written over a file that is read for it, and over another
-file that is no page of this program only with --force.
+One page that needs nothing else: the verdict, what is proved and what that rests on, the constants with where they stand in
+the file, the steps beside their source lines, and a picture of the records, in which each has a link to the record that
+contains it, as it has among the steps. The lines of SOURCE.rb are shown beside the steps of the debug files of that name;
+nothing proves that it is the source of the pattern. Without -o the page goes to standard output; --output is the same as
+-o. The page is never written over a file that is read for it, and over another file that is no page of this program only
+with --force.
 
 Example
     blotheath report oval.mrb -o oval.html --source oval.rb

@@ -9,12 +9,13 @@ const MOST_OF_SYMBOL: usize = 24;
 
 /// The words for each record.
 pub fn labels(pattern: &Pattern, tree: &Tree) -> Vec<String> {
-    let mut labels = vec![String::new(); tree.nodes.len()];
+    let records = pattern.counts().records;
+    let mut labels = vec![String::new(); records as usize];
     if let Some(first) = labels.first_mut() {
         *first = "main".to_owned();
     }
     let mut left = MOST_SHOWN as usize;
-    for number in 0..tree.nodes.len() as u32 {
+    for number in 0..records {
         let Ok(steps) = pattern.steps(number) else {
             continue;
         };

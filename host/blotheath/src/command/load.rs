@@ -1,6 +1,7 @@
 //! `blotheath load`: the rows of a file.
 
 use super::json::Json;
+use super::nesting;
 use super::style::Style;
 use super::text::{self, counted, grouped};
 use super::verdict::{self, count_members};
@@ -119,7 +120,7 @@ impl Tables<'_> {
         self.table(
             "records",
             counts.records,
-            ">record >size >locals >registers >children >handlers >code >at >constants >symbols >names >files >lines",
+            ">record >size >locals >registers >children >handlers >code >at >constants >symbols >names >files >lines >depth >parent",
             &|row| records(pattern, row),
         )?;
         self.table(
@@ -268,7 +269,7 @@ fn numbered<'p>(pattern: &'p Pattern) -> impl Iterator<Item = (u32, Record)> + '
 
 fn records(pattern: &Pattern, row: Row) -> io::Result<()> {
     for (number, record) in numbered(pattern) {
-        row(numbers(&[
+        let mut cells = numbers(&[
             number,
             record.size,
             record.nlocals,
@@ -282,7 +283,11 @@ fn records(pattern: &Pattern, row: Row) -> io::Result<()> {
             record.names.number,
             record.files.number,
             record.lines.number,
-        ]))?;
+            record.depth,
+        ]);
+        let parent = record.parent.map(|parent| parent.to_string());
+        cells.push(parent.unwrap_or("-".to_owned()));
+        row(cells)?;
     }
     Ok(())
 }
@@ -539,6 +544,7 @@ fn write_record(
     ] {
         json.key(name)?.number(value)?;
     }
+    nesting::members(json, record)?;
     json.key("handlers")?.array(|json| {
         for index in taken(&mut left.handlers, record.handlers.number) {
             write_handler(json, pattern, number, index)?;

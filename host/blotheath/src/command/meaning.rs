@@ -63,7 +63,7 @@ impl<'a> Reader<'_, 'a> {
         let [_, register, between] = step.operands;
         let mut outer = number;
         for _ in 0..=between {
-            outer = self.tree.nodes.get(outer as usize)?.parent?;
+            outer = self.pattern.record(outer)?.parent?;
         }
         Some(self.local(outer, &self.pattern.record(outer)?, register))
     }

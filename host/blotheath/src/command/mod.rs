@@ -14,6 +14,7 @@ mod labels;
 mod lines;
 mod load;
 mod meaning;
+mod nesting;
 mod opcodes;
 mod report;
 mod sha256;

@@ -6,6 +6,7 @@ use super::json::Json;
 use super::labels::labels;
 use super::load::SHARED_TEXT;
 use super::meaning::{Meaning, Reader, registers_member, touched};
+use super::nesting;
 use super::source::Source;
 use super::style::Style;
 use super::text::{self, counted, grouped};
@@ -187,9 +188,10 @@ struct View<'w, 'p, 'a> {
 impl View<'_, '_, '_> {
     fn record(&mut self, number: u32, record: &Record, label: &str) -> io::Result<()> {
         let style = self.style;
+        let nesting = nesting::told(number, record);
         let title = match label.is_empty() {
-            true => format!("record {number}"),
-            false => format!("record {number}, {label}"),
+            true => format!("record {number}, {nesting}"),
+            false => format!("record {number}, {label}, {nesting}"),
         };
         let about = [
             counted(record.ilen.into(), "byte"),
@@ -341,6 +343,7 @@ impl Steps<'_, '_> {
     fn record(&mut self, json: &mut Json, number: u32, record: &Record) -> io::Result<()> {
         let shown = shown(self.reader.pattern, number, &mut self.most.left);
         json.key("record")?.number(number)?;
+        nesting::members(json, record)?;
         json.key("code_at")?.number(record.place)?;
         json.key("steps")?.array(|json| {
             for step in &shown.steps {

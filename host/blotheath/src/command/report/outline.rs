@@ -1,8 +1,9 @@
 //! The records as an indented outline.
 
 use super::html::escape;
+use crate::command::nesting::{UNREACHED, depth};
 use crate::command::text::{counted, grouped};
-use blotheath::{Pattern, Tree};
+use blotheath::{Pattern, Record};
 use std::io::{self, Write};
 
 /// The depth from which on rows are not indented further.
@@ -15,11 +16,11 @@ const MOST_ROWS: usize = 120;
 pub fn write(
     out: &mut dyn Write,
     pattern: &Pattern,
-    tree: &Tree,
     labels: &[String],
     class: &str,
 ) -> io::Result<()> {
-    let deepest = tree.nodes.iter().map(|node| node.depth).max();
+    let records: Vec<Record> = pattern.records().collect();
+    let deepest = records.iter().map(|record| record.depth).max();
     let deepest = deepest.unwrap_or_default();
     writeln!(out, "<div class=\"{class}\">")?;
     if deepest > DEEPEST {
@@ -29,7 +30,7 @@ pub fn write(
             grouped(deepest.into())
         )?;
     }
-    let rows = tree.nodes.len();
+    let rows = records.len();
     let first = if rows > MOST_ROWS + MOST_ROWS / 4 {
         MOST_ROWS
     } else {
@@ -38,16 +39,21 @@ pub fn write(
     let write_rows = |out: &mut dyn Write, rows: std::ops::Range<usize>| {
         writeln!(out, "<ol class=\"outline\">")?;
         for number in rows {
-            let depth = tree.nodes[number].depth;
-            let told = match deepest > DEEPEST {
-                true => format!("depth {}, ", grouped(depth.into())),
+            let record = &records[number];
+            let mut told = match deepest > DEEPEST {
+                true => depth(record) + ", ",
                 false => String::new(),
+            };
+            told += &match record.parent {
+                Some(parent) => format!("inside <a href=\"#r{parent}\">{parent}</a>, "),
+                None if number == 0 => String::new(),
+                None => format!("{UNREACHED}, "),
             };
             writeln!(
                 out,
                 "<li class=\"d{}\"><a href=\"#r{number}\"><span class=\"of\">{number}</span> <span class=\"what\">{}</span></a> \
                  <span class=\"about\">{told}{}</span></li>",
-                depth.min(DEEPEST),
+                record.depth.min(DEEPEST),
                 escape(&labels[number]),
                 escape(&about(pattern, number as u32))
             )?;

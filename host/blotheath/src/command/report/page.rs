@@ -65,7 +65,7 @@ impl Page<'_> {
             true => "instead",
             false => "alone",
         };
-        outline::write(out, pattern, &tree, &labels, class)?;
+        outline::write(out, pattern, &labels, class)?;
         writeln!(
             out,
             "</section><section><h2>The file from its first byte to its last</h2>"

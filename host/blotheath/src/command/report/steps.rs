@@ -8,6 +8,7 @@ use crate::command::MOST_SHOWN;
 use crate::command::arrows::Margin;
 use crate::command::load::handler_kind;
 use crate::command::meaning::{Meaning, Reader, touched};
+use crate::command::nesting;
 use crate::command::steps::{Shown, margin, shown};
 use crate::command::text::{self, counted};
 use blotheath::{
@@ -82,6 +83,17 @@ enum Mark {
     Record,
 }
 
+/// What contains a record, with a link to it, and how deep the record lies.
+fn nested(number: u32, record: &Record) -> String {
+    match record.parent {
+        Some(parent) => format!(
+            "inside <a href=\"#r{parent}\">record {parent}</a>, {}",
+            nesting::depth(record)
+        ),
+        None => nesting::told(number, record),
+    }
+}
+
 /// Where a step comes from: a debug file's name and a line.
 #[derive(PartialEq, Clone, Copy)]
 struct Origin<'v> {
@@ -93,6 +105,7 @@ impl<'v> View<'v> {
     fn write(&self, out: &mut dyn Write, label: &str, shown: &Shown) -> io::Result<()> {
         let (number, record) = (self.number, self.record);
         let about = [
+            nested(number, record),
             format!(
                 "{} at {}",
                 counted(record.ilen.into(), "byte"),

@@ -16,13 +16,13 @@ const WIDEST: f64 = 1_108.0;
 const HIGHEST: f64 = 680.0;
 
 /// Where the middle of each record's left side is drawn.
-fn places(tree: &Tree) -> Vec<(f64, f64)> {
-    let mut places = Vec::with_capacity(tree.nodes.len());
+fn places(pattern: &Pattern, tree: &Tree) -> Vec<(f64, f64)> {
+    let mut places = Vec::new();
     let mut leaves = 0.0;
-    for (record, node) in (0..).zip(&tree.nodes) {
-        let across = 1.0 + f64::from(node.depth) * ACROSS;
+    for (number, record) in (0..).zip(pattern.records()) {
+        let across = 1.0 + f64::from(record.depth) * ACROSS;
         places.push((across, 1.0 + HEIGHT / 2.0 + leaves * DOWN));
-        if tree.children(record).is_empty() {
+        if tree.children(number).is_empty() {
             leaves += 1.0;
         }
     }
@@ -43,7 +43,7 @@ pub fn write(
     tree: &Tree,
     labels: &[String],
 ) -> io::Result<bool> {
-    let places = places(tree);
+    let places = places(pattern, tree);
     let farthest = places.iter().map(|place| place.0).fold(0.0, f64::max);
     let lowest = places.iter().map(|place| place.1).fold(0.0, f64::max);
     let (width, height) = (farthest + CARD + 1.0, lowest + HEIGHT / 2.0 + 1.0);
@@ -55,9 +55,14 @@ pub fn write(
         "<svg class=\"tree\" width=\"{width}\" height=\"{height}\" viewBox=\"0 0 {width} {height}\" role=\"img\" \
          aria-label=\"The tree of records\">"
     )?;
-    for (record, node) in tree.nodes.iter().enumerate() {
-        if let Some(parent) = node.parent {
-            write_line(out, places[parent as usize], places[record])?;
+    for (number, record) in pattern.records().enumerate() {
+        if let Some(parent) = record.parent {
+            write!(
+                out,
+                "<a href=\"#r{parent}\"><title>record {number} is inside record {parent}</title>"
+            )?;
+            write_line(out, places[parent as usize], places[number])?;
+            writeln!(out, "</a>")?;
         }
     }
     for (record, place) in places.iter().enumerate() {
@@ -68,13 +73,17 @@ pub fn write(
     Ok(true)
 }
 
+/// Draws the line from a record to one that it contains, in a broad one that is not seen and can be met with a pointer.
 fn write_line(out: &mut dyn Write, from: (f64, f64), to: (f64, f64)) -> io::Result<()> {
     let start = from.0 + CARD;
     let middle = (start + to.0) / 2.0;
-    writeln!(
-        out,
-        "<path class=\"branch\" d=\"M{start:.1} {:.1} C{middle:.1} {:.1} {middle:.1} {:.1} {:.1} {:.1}\"/>",
+    let way = format!(
+        "M{start:.1} {:.1} C{middle:.1} {:.1} {middle:.1} {:.1} {:.1} {:.1}",
         from.1, from.1, to.1, to.0, to.1
+    );
+    write!(
+        out,
+        "<path class=\"broad\" d=\"{way}\"/><path class=\"branch\" d=\"{way}\"/>"
     )
 }
 
