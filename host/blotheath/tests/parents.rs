@@ -210,24 +210,22 @@ fn heads(out: &str) -> Vec<&str> {
 #[test]
 fn steps_tell_a_records_place() {
     let folder = Folder::new("parents-steps");
-    let shown = told(&folder, &["steps"], &tree(&[1, 1, 0], false));
-    assert_eq!(
-        heads(&shown.out),
-        [
-            "record 0, main, outermost, depth 0",
+    let first = "record 0, main, outermost, depth 0";
+    for (rlens, second, third) in [
+        (
+            [1, 1, 0],
             "record 1, inside 0, depth 1",
             "record 2, inside 1, depth 2",
-        ]
-    );
-    let shown = told(&folder, &["steps"], &tree(&[0, 1, 0], false));
-    assert_eq!(
-        heads(&shown.out),
-        [
-            "record 0, main, outermost, depth 0",
+        ),
+        (
+            [0, 1, 0],
             "record 1, never reached",
             "record 2, never reached",
-        ]
-    );
+        ),
+    ] {
+        let shown = told(&folder, &["steps"], &tree(&rlens, false));
+        assert_eq!(heads(&shown.out), [first, second, third]);
+    }
     let shown = run(&["steps", sample().to_str().unwrap()]);
     assert_eq!(
         heads(&shown.out),
