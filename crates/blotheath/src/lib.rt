@@ -11,10 +11,12 @@ use boundary_steps::BlotheathFetched;
 use boundary_steps::BlotheathLine;
 use line::Pos;
 use records_row::Record;
+use rite::Allowance;
 ghost use mathlib.Core.Path.{_≡_};
 ghost use lib.ListN.{length};
 ghost use Rattle.format.specs.Insn.{fetch};
 ghost use Rattle.format.specs.Line.{lineAt, mapOf};
+ghost use Rattle.format.specs.Allowance.{allowance};
 ghost use Rattle.format.specs.Load.{load};
 ghost use Rattle.format.specs.Lookup as lookup;
 ghost use Rattle.format.specs.Exam.{examine};
@@ -142,10 +144,12 @@ pub extern "C" fn blotheath_line(
     boundary_lookups::looked_line(lookup::line(records, lines, rec, Pos(offset)))
 }
 
-// Loads a file into nine lent tables.
+// Loads a file of at most so many bytes and records into nine lent tables.
 #[no_mangle]
 pub extern "C" fn blotheath_load(
     file: &[u8],
+    max_bytes: u32,
+    max_records: u32,
     records: &mut [u32],
     handlers: &mut [u32],
     pool: &mut [u32],
@@ -160,7 +164,7 @@ pub extern "C" fn blotheath_load(
         (now (filenames .exit)) (now (files .exit)) (now (lines .exit)))
         ≡ loadedIs (load (now (file .entry)) (sizes
         (words (now (records .entry)) (now (handlers .entry)) (now (pool .entry)) (now (symbols .entry)) (now (strings .entry)) (now (names .entry))
-        (now (filenames .entry)) (now (files .entry)) (now (lines .entry))))) ⌝ }
+        (now (filenames .entry)) (now (files .entry)) (now (lines .entry)))) (allowance «max_bytes» «max_records»)) ⌝ }
 {
     boundary::loaded(rite::load(
         file,
@@ -173,6 +177,10 @@ pub extern "C" fn blotheath_load(
         filenames,
         files,
         lines,
+        Allowance {
+            bytes: max_bytes,
+            records: max_records,
+        },
     ))
 }
 
@@ -180,6 +188,8 @@ pub extern "C" fn blotheath_load(
 #[no_mangle]
 pub extern "C" fn blotheath_load_records(
     file: &[u8],
+    max_bytes: u32,
+    max_records: u32,
     records: &mut [u32],
     handlers: &mut [u32],
     pool: &mut [u32],
@@ -195,11 +205,13 @@ pub extern "C" fn blotheath_load_records(
         (now (filenames .exit)) (now (files .exit)) (now (lines .exit)))
         ≡ loadedIs (load (now (file .entry)) (sizes
         (words (now (records .entry)) (now (handlers .entry)) (now (pool .entry)) (now (symbols .entry)) (now (strings .entry)) (now (names .entry))
-        (now (filenames .entry)) (now (files .entry)) (now (lines .entry))))))
+        (now (filenames .entry)) (now (files .entry)) (now (lines .entry)))) (allowance «max_bytes» «max_records»)))
         × (now (rows .exit) ≡ rowsOf (now (records .exit)) (length (now (rows .entry)))) ⌝ }
 {
     let loaded = blotheath_load(
         file,
+        max_bytes,
+        max_records,
         records,
         handlers,
         pool,
@@ -214,10 +226,12 @@ pub extern "C" fn blotheath_load_records(
     loaded
 }
 
-// Examines a file over nine lent tables.
+// Examines a file of at most so many bytes and records over nine lent tables.
 #[no_mangle]
 pub extern "C" fn blotheath_examine(
     file: &[u8],
+    max_bytes: u32,
+    max_records: u32,
     records: &mut [u32],
     handlers: &mut [u32],
     pool: &mut [u32],
@@ -232,7 +246,7 @@ pub extern "C" fn blotheath_examine(
         (now (filenames .exit)) (now (files .exit)) (now (lines .exit)))
         ≡ loadedIs (examine (now (file .entry)) (sizes
         (words (now (records .entry)) (now (handlers .entry)) (now (pool .entry)) (now (symbols .entry)) (now (strings .entry)) (now (names .entry))
-        (now (filenames .entry)) (now (files .entry)) (now (lines .entry))))) ⌝ }
+        (now (filenames .entry)) (now (files .entry)) (now (lines .entry)))) (allowance «max_bytes» «max_records»)) ⌝ }
 {
     boundary::loaded(examine::examine(
         file,
@@ -245,13 +259,19 @@ pub extern "C" fn blotheath_examine(
         filenames,
         files,
         lines,
+        Allowance {
+            bytes: max_bytes,
+            records: max_records,
+        },
     ))
 }
 
-// Follows the run of a file along choice bytes, over nine lent tables and a frame table.
+// Follows the run of a file of at most so many bytes and records along choice bytes, over nine lent tables and a frame table.
 #[no_mangle]
 pub extern "C" fn blotheath_follow(
     file: &[u8],
+    max_bytes: u32,
+    max_records: u32,
     records: &mut [u32],
     handlers: &mut [u32],
     pool: &mut [u32],
@@ -268,7 +288,7 @@ pub extern "C" fn blotheath_follow(
         (now (filenames .exit)) (now (files .exit)) (now (lines .exit))) (now (frames .exit))
         ≡ ranIs (follow (now (file .entry)) (sizes
         (words (now (records .entry)) (now (handlers .entry)) (now (pool .entry)) (now (symbols .entry)) (now (strings .entry)) (now (names .entry))
-        (now (filenames .entry)) (now (files .entry)) (now (lines .entry)))) (length (now (frames .entry))) (now (choices .entry))) ⌝ }
+        (now (filenames .entry)) (now (files .entry)) (now (lines .entry)))) (allowance «max_bytes» «max_records») (length (now (frames .entry))) (now (choices .entry))) ⌝ }
 {
     boundary::followed(follow::follow(
         file,
@@ -283,5 +303,9 @@ pub extern "C" fn blotheath_follow(
         lines,
         frames,
         choices,
+        Allowance {
+            bytes: max_bytes,
+            records: max_records,
+        },
     ))
 }

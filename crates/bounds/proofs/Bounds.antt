@@ -14,6 +14,7 @@ use Rattle.format.specs.Reading.{Part, part}
 use Rattle.format.specs.Irep.{Rec, irepSection}
 use Rattle.format.specs.Walk.{visits}
 use Rattle.format.specs.Lvar.{Lvar}
+use Rattle.format.specs.Allowance.{Allowance}
 use Rattle.format.specs.File.{Content, isMark, once, afterIrep, sectionAt, sections, nothing, fileRefusal, fileReading}
 use Rattle.format.specs.Load.{joined, recordsOf, stringsOf, namesOf, fileNamesOf, filesOf, Tables, tablesOf, visitsOf}
 use Rattle.format.proofs.Answers.{either, anything, answered}
@@ -75,18 +76,18 @@ module _ (n : ℕ) (c : Content) (x : Counts n c) where
       go none = x
       go (some rs) = y rs
 
-module _ (f : List ℕ) (bytes : (i : ℕ) → getD f i 0 < 256) (n : ℕ) (short : length f ≤ n) where
+module _ (f : List ℕ) (bytes : (i : ℕ) → getD f i 0 < 256) (n : ℕ) (short : length f ≤ n) (allowed : ℕ) where
   -- the part of the file from a place on, and its records
   drop-short : (at : ℕ) → length (drop at f) ≤ n
   drop-short at = rw length-drop (omega arith)
 
-  drop-sums : (at : ℕ) → Sums n (irepSection (drop at f) at .rows)
+  drop-sums : (at : ℕ) → Sums n (irepSection (drop at f) at allowed .rows)
   drop-sums at =
-      let s = irepSection-sums (drop at f) (λ i. rw getD-drop (bytes (at + i))) at in
+      let s = irepSection-sums (drop at f) (λ i. rw getD-drop (bytes (at + i))) at allowed in
       record { records = omega (arith, drop-short at); handlers = s .handlers; pool = s .pool; symbols = s .symbols; children = s .children }
 
   -- a section, behind what was read before it; and the sections from a place on
-  pub sectionAt-counts : (c : Content) (at : ℕ) → Counts n c → Keeps n (sectionAt f c at)
+  pub sectionAt-counts : (c : Content) (at : ℕ) → Counts n c → Keeps n (sectionAt f allowed c at)
   unfolding sectionAt
   sectionAt-counts c at x =
       either (Keeps n) (isMark f at irep) _ _
@@ -100,37 +101,39 @@ module _ (f : List ℕ) (bytes : (i : ℕ) → getD f i 0 < 256) (n : ℕ) (shor
       (λ _. either (Keeps n) (isMark f at end) _ _ (λ _. x) (λ _. x))))
 
   -- `left` bounds the sections that may come
-  pub sections-counts : (left : ℕ) (c : Content) (at : ℕ) → Counts n c → Keeps n (sections f left c at)
+  pub sections-counts : (left : ℕ) (c : Content) (at : ℕ) → Counts n c → Keeps n (sections f allowed left c at)
   unfolding sections
   sections-counts zero c at x = x
   sections-counts (suc left) c at x =
       either (Keeps n) (has f at 4) _ _
       (λ _.
-      let s = sectionAt f c at in
+      let s = sectionAt f allowed c at in
       let y = sectionAt-counts c at x in
       answered _ _ (Keeps n) (s .end) _ _ (anything (s .end)) (λ size _. sections-counts left (s .it) (at + size) y) (λ _ _. y))
       (λ _. x)
 
 -- of a file that its tests refuse nothing is read
-pub fileReading-counts : (f : List ℕ) → ((i : ℕ) → getD f i 0 < 256) → Keeps 65536 (fileReading f)
+pub fileReading-counts : (f : List ℕ) → ((i : ℕ) → getD f i 0 < 256) → (a : Allowance) → Keeps 65536 (fileReading f a)
 unfolding fileReading
-fileReading-counts f bytes =
-    either (Keeps 65536) (eqb (fileRefusal f) 0) _ _
-    (λ z. sections-counts f bytes 65536 (accepted f (eqb-true _ _ z) .small) (length f) nothing 20 (no-counts 65536))
+fileReading-counts f bytes a =
+    either (Keeps 65536) (eqb (fileRefusal f (a .bytes)) 0) _ _
+    (λ z. sections-counts f bytes 65536 (accepted f (a .bytes) (eqb-true _ _ z) .small) (a .records) (length f) nothing 20 (no-counts 65536))
     (λ _. no-counts 65536)
 
 -- so every reading, with any number of records
-pub reading-bounds : (f : List ℕ) → ((i : ℕ) → getD f i 0 < 256) → Bounds (tablesOf (fileReading f .it))
-reading-bounds f bytes = counts-bounds (fileReading f .it) (fileReading-counts f bytes)
+pub reading-bounds : (f : List ℕ) → ((i : ℕ) → getD f i 0 < 256) → (g : Allowance) → Bounds (tablesOf (fileReading f g .it))
+reading-bounds f bytes g = counts-bounds (fileReading f g .it) (fileReading-counts f bytes g)
 
 -- the same of a reading that fits the 1,024 records
-pub bounds : (f : List ℕ) → ((i : ℕ) → getD f i 0 < 256) → length (recordsOf (fileReading f .it)) ≤ 1024 → Bounds (tablesOf (fileReading f .it))
-bounds f bytes _ = reading-bounds f bytes
+pub bounds : (f : List ℕ) → ((i : ℕ) → getD f i 0 < 256) → (a : Allowance) → length (recordsOf (fileReading f a .it)) ≤ 1024
+    → Bounds (tablesOf (fileReading f a .it))
+bounds f bytes a _ = reading-bounds f bytes a
 
 -- "1 plus the rlens of the records visited": at most 1 + 1,024 * 65,535
-pub visits-few : (f : List ℕ) → ((i : ℕ) → getD f i 0 < 256) → length (recordsOf (fileReading f .it)) ≤ 1024 → visitsOf (fileReading f .it) ≤ 67107841
-visits-few f bytes few = go (fileReading f .it .lvar)
+pub visits-few : (f : List ℕ) → ((i : ℕ) → getD f i 0 < 256) → (a : Allowance) → length (recordsOf (fileReading f a .it)) ≤ 1024
+    → visitsOf (fileReading f a .it) ≤ 67107841
+visits-few f bytes a few = go (fileReading f a .it .lvar)
   where
-    go : (l : Option Lvar) → elim l [ none ↦ 0 | some _ ↦ visits (recordsOf (fileReading f .it)) 1 ] ≤ 67107841
+    go : (l : Option Lvar) → elim l [ none ↦ 0 | some _ ↦ visits (recordsOf (fileReading f a .it)) 1 ] ≤ 67107841
     go none = omega arith
-    go (some _) = omega (arith, few, visits-most (recordsOf (fileReading f .it)) 1, fileReading-counts f bytes .irep .children)
+    go (some _) = omega (arith, few, visits-most (recordsOf (fileReading f a .it)) 1, fileReading-counts f bytes a .irep .children)

@@ -104,7 +104,7 @@ pub record Grown (c c′ : Content) : Type 0 where
   pub ordered : Ordered (c′ .irep) (c′ .lvar) (c′ .dbg)
   pub less : Less c c′
 
-module _ (f : List ℕ) (at : ℕ) where
+module _ (f : List ℕ) (at allowed : ℕ) where
   grown-irep : (i : Option (List Rec)) (l : Option Lvar) (d : Option Debug) → Ordered i l d → (s : List Rec) (e : Answer ℕ)
       → Grown (content i l d) (once i (content i l d) (part (content (some s) l d) e) .it)
   grown-irep (some rs) l d o s e = record { ordered = tt; less = same (content (some rs) l d) }
@@ -125,7 +125,7 @@ module _ (f : List ℕ) (at : ℕ) where
   grown-dbg (some rs) l (some d) o k = record { ordered = tt; less = same (content (some rs) l (some d)) }
   grown-dbg (some rs) l none o k = record { ordered = tt; less = with-dbg rs l (k rs .it) }
 
-  pub section-grows : (i : Option (List Rec)) (l : Option Lvar) (d : Option Debug) → Ordered i l d → Grown (content i l d) (sectionAt f (content i l d) at .it)
+  pub section-grows : (i : Option (List Rec)) (l : Option Lvar) (d : Option Debug) → Ordered i l d → Grown (content i l d) (sectionAt f allowed (content i l d) at .it)
   unfolding sectionAt
   section-grows i l d o = by-irep (isMark f at mark.irep) (isMark f at mark.lvar) (isMark f at mark.dbg) (isMark f at mark.end)
     where
@@ -134,25 +134,25 @@ module _ (f : List ℕ) (at : ℕ) where
 
       by-irep : (p q r s : Bool)
           → Grown (content i l d)
-          (cond p (once i (content i l d) (let s = irepSection (drop at f) at in part (content (some (s .rows)) l d) (s .end)))
+          (cond p (once i (content i l d) (let s = irepSection (drop at f) at allowed in part (content (some (s .rows)) l d) (s .end)))
           (cond q (afterIrep (content i l d) (λ rs. once l (content i l d) (let s = lvarSection (drop at f) at rs in part (content i (some (s .it)) d) (s .end))))
           (cond r (afterIrep (content i l d) (λ rs. once d (content i l d) (let s = debugSection (drop at f) at rs in part (content i l (some (s .it))) (s .end))))
           (cond s (part (content i l d) (endSection (drop at f))) (part (content i l d) (refused 5))))) .it)
-      by-irep true q r s = grown-irep i l d o (irepSection (drop at f) at .rows) (irepSection (drop at f) at .end)
+      by-irep true q r s = grown-irep i l d o (irepSection (drop at f) at allowed .rows) (irepSection (drop at f) at allowed .end)
       by-irep false true r s = grown-lvar i l d o (lvarSection (drop at f) at)
       by-irep false false true s = grown-dbg i l d o (debugSection (drop at f) at)
       by-irep false false false true = stays
       by-irep false false false false = stays
 
 -- as far as the sections go
-pub sections-grow : (f : List ℕ) (n : ℕ) (c : Content) (at : ℕ) → Ordered (c .irep) (c .lvar) (c .dbg) → Less c (sections f n c at .it)
+pub sections-grow : (f : List ℕ) (allowed n : ℕ) (c : Content) (at : ℕ) → Ordered (c .irep) (c .lvar) (c .dbg) → Less c (sections f allowed n c at .it)
 unfolding sections
-sections-grow f zero c at o = same c
-sections-grow f (suc n) c at o = by-there (has f at 4) (section-grows f at (c .irep) (c .lvar) (c .dbg) o) (sectionAt f c at .end) refl (sections-grow f n)
+sections-grow f allowed zero c at o = same c
+sections-grow f allowed (suc n) c at o = by-there (has f at 4) (section-grows f at allowed (c .irep) (c .lvar) (c .dbg) o) (sectionAt f allowed c at .end) refl (sections-grow f allowed n)
   where
-    by-there : (b : Bool) → Grown c (sectionAt f c at .it) → (e : Answer ℕ) → sectionAt f c at .end ≡ e
-        → ((c : Content) (at : ℕ) → Ordered (c .irep) (c .lvar) (c .dbg) → Less c (sections f n c at .it))
-        → Less c (cond b (onAnswer e (λ size. sections f n (sectionAt f c at .it) (at + size)) (λ k. part (sectionAt f c at .it) (refused k))) (part c (ok at)) .it)
+    by-there : (b : Bool) → Grown c (sectionAt f allowed c at .it) → (e : Answer ℕ) → sectionAt f allowed c at .end ≡ e
+        → ((c : Content) (at : ℕ) → Ordered (c .irep) (c .lvar) (c .dbg) → Less c (sections f allowed n c at .it))
+        → Less c (cond b (onAnswer e (λ size. sections f allowed n (sectionAt f allowed c at .it) (at + size)) (λ k. part (sectionAt f allowed c at .it) (refused k))) (part c (ok at)) .it)
     by-there false g e q ih = same c
-    by-there true g (ok size) q ih = less-less c (sectionAt f c at .it) _ (g .less) (ih (sectionAt f c at .it) (at + size) (g .ordered))
+    by-there true g (ok size) q ih = less-less c (sectionAt f allowed c at .it) _ (g .less) (ih (sectionAt f allowed c at .it) (at + size) (g .ordered))
     by-there true g (refused k) q ih = g .less

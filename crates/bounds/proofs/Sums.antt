@@ -1,10 +1,10 @@
 -- A record of a file of bytes has at most 65,535 rows in each list, and as many children, since two bytes hold the count; a section has at most as
 -- many records as bytes.
 -- Assumes nothing.
-use Prim.Native.Nat.{ℕ, zero, suc, _+_, _*_, _≤_, _<_}
+use Prim.Native.Nat.{ℕ, zero, suc, _+_, _-_, _*_, _≤_, _<_}
 use native.Mathlib.Omega.{arith}
 use mathlib.Core.List.{List, [], _∷_}
-use lib.Dec.{leb}
+use lib.Dec.{leb, eqb}
 use lib.ListN.{length, getD, length-append}
 use Rattle.format.specs.Bytes.{Answer, ok, refused, Step, has, u16At, u32At}
 use Rattle.format.specs.Reading.{Read, Part, andThen, inTurn}
@@ -78,29 +78,32 @@ module _ (f : List ℕ) (bytes : (i : ℕ) → getD f i 0 < 256) (base : ℕ) wh
         symbols = andThen-rows (λ l. length l ≤ 65535) (b .end) (counted f (symbolText f base)) (omega arith) (counted-small (symbolText f base));
       }
 
-  pub recordAt-small : (at : ℕ) → SmallRec (recordAt f base at .it)
+  pub recordAt-small : (allowed at : ℕ) → SmallRec (recordAt f base allowed at .it)
   unfolding recordAt headAt
-  recordAt-small at =
-      either (λ (x : Part Rec). SmallRec (x .it)) (has f (at + 16) (headAt f at .ilen)) _ _
+  recordAt-small allowed at =
+      let none : Small (body [] [] []) = record { handlers = omega arith; pool = omega arith; symbols = omega arith } in
+      either (λ (x : Part Rec). SmallRec (x .it)) (eqb allowed 0) _ _
+      (λ _. (none, small16 (at + 8)))
+      (λ _. either (λ (x : Part Rec). SmallRec (x .it)) (has f (at + 16) (headAt f at .ilen)) _ _
       (λ _. (bodyAt-small (headAt f at .clen) (at + 16 + headAt f at .ilen) (small16 (at + 10)), small16 (at + 8)))
-      (λ _. (record { handlers = omega arith; pool = omega arith; symbols = omega arith }, small16 (at + 8)))
+      (λ _. (none, small16 (at + 8))))
 
   -- the records from a place on, and the section's
-  pub recordsFrom-sums : (size n at : ℕ) → Sums n (recordsFrom f base size n at .rows)
+  pub recordsFrom-sums : (size n allowed at : ℕ) → Sums n (recordsFrom f base size n allowed at .rows)
   unfolding recordsFrom
-  recordsFrom-sums size zero at = no-sums zero
-  recordsFrom-sums size (suc n) at =
+  recordsFrom-sums size zero allowed at = no-sums zero
+  recordsFrom-sums size (suc n) allowed at =
       either (λ (x : Read Rec). Sums (suc n) (x .rows)) (leb size at) _ _
       (λ _. no-sums (suc n))
       (λ _. either (λ (x : Read Rec). Sums (suc n) (x .rows)) (has f at 16) _ _
-      (λ _. one-more n _ _ (recordAt-small at) (andThen-rows (Sums n) (recordAt f base at .end) (recordsFrom f base size n) (no-sums n) (recordsFrom-sums size n)))
+      (λ _. one-more n _ _ (recordAt-small allowed at) (andThen-rows (Sums n) (recordAt f base allowed at .end) (recordsFrom f base size n (allowed - 1)) (no-sums n) (recordsFrom-sums size n (allowed - 1))))
       (λ _. no-sums (suc n)))
 
-  pub irepSection-sums : Sums (length f) (irepSection f base .rows)
+  pub irepSection-sums : (allowed : ℕ) → Sums (length f) (irepSection f base allowed .rows)
   unfolding irepSection
-  irepSection-sums =
+  irepSection-sums allowed =
       either (λ (x : Read Rec). Sums (length f) (x .rows)) (has f 0 12) _ _
       (λ _. either (λ (x : Read Rec). Sums (length f) (x .rows)) (leb (u32At f 4) (length f)) _ _
-      (λ _. recordsFrom-sums (u32At f 4) (length f) 12)
+      (λ _. recordsFrom-sums (u32At f 4) (length f) allowed 12)
       (λ _. no-sums (length f)))
       (λ _. no-sums (length f))

@@ -7,6 +7,7 @@ use mathlib.Core.List.{List}
 use lib.ListN.{length}
 use Rattle.format.specs.Bytes.{ok}
 use Rattle.format.specs.Rows.{recordWidth, recordWords}
+use Rattle.format.specs.Allowance.{Allowance}
 use Rattle.format.specs.File.{Content}
 use Rattle.format.specs.Load.{Nine, recordsOf, tablesOf, wordsOf, loading}
 use Rattle.format.specs.Pattern.{patternOf}
@@ -20,14 +21,14 @@ module _ (f : List ℕ) (m : Nine) (c : Content) where
   pub pattern-is : let w = wordsOf m (tablesOf c) in patternAt f (w .records) (w .handlers) (w .lines) (length (recordsOf c)) ≡ patternOf f c
   pattern-is = pattern-said f m c
 
-  pub tables-fit : loading f m ≡ ok c → let w = wordsOf m (tablesOf c) in Fits f (w .records) (w .handlers) (w .lines) (length (recordsOf c))
-  tables-fit l =
+  pub tables-fit : (allow : Allowance) → loading f m allow ≡ ok c → let w = wordsOf m (tablesOf c) in Fits f (w .records) (w .handlers) (w .lines) (length (recordsOf c))
+  tables-fit allow l =
       let n = records-length c in
-      let room = loading-held f m c l in
+      let room = loading-held f m allow c l in
       let words = table-length recordWords recordWidth (λ _. refl) (omega arith) (m .records) (tablesOf c .records) (room .records) in
       record {
         few = omega (arith, n, room .few);
         held = omega (arith, n, room .records, words);
-        small = loading-inside f m c l .small;
-        each = λ i h. let x = row-inside f m c l i h in record { inside = x .inside; bytes = x .bytes; handling = x .handling; lined = x .lined };
+        small = loading-inside f m allow c l .small;
+        each = λ i h. let x = row-inside f m allow c l i h in record { inside = x .inside; bytes = x .bytes; handling = x .handling; lined = x .lined };
       }

@@ -6,13 +6,14 @@ use mathlib.Core.List.{List}
 use lib.Dec.{leb}
 use lib.ListN.{length}
 use Rattle.format.specs.Bytes.{Answer, refused, bind}
+use Rattle.format.specs.Allowance.{Allowance}
 use Rattle.format.specs.File.{Content}
 use Rattle.format.specs.Load.{Nine, recordsOf, loading}
 use Rattle.format.specs.Pattern.{Pattern}
 use Rattle.format.specs.Exam.{examinePattern, passing}
 
-abbrev pub passingIn : List ℕ → Nine → ℕ → Answer Content
-passingIn f m rows = bind (loading f m) (λ c. cond (leb (length (recordsOf c)) rows) (passing f c) (refused 14))
+abbrev pub passingIn : List ℕ → Nine → Allowance → ℕ → Answer Content
+passingIn f m a rows = bind (loading f m a) (λ c. cond (leb (length (recordsOf c)) rows) (passing f c) (refused 14))
 
 -- 14 where a pattern of n records has more than so many, else the number that its examination answers
 abbrev pub refusalOf : ℕ → ℕ → Pattern → ℕ

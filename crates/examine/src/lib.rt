@@ -1,11 +1,13 @@
 // Examination of a file: it is loaded, then tested for 15 to 20 and 25.
 use exam::examine_tables;
+use format::DESKTOP_RECORDS;
+use rite::Allowance;
 use rite::Loaded;
 use tables::clear_all;
 ghost use mathlib.Core.Path.{_≡_};
 ghost use Rattle.format.specs.Load.{laid};
 ghost use Rattle.format.specs.Exam.{examine};
-ghost use Rattle.rite.specs.Answers.{words, sizes, loadedOf};
+ghost use Rattle.rite.specs.Answers.{words, sizes, loadedOf, allowanceOf};
 ghost use Rattle.exam.specs.View.{patternAt, Fits};
 ghost use Rattle.examine.specs.Passing.{passingIn, refusalOf};
 
@@ -21,7 +23,7 @@ fn refusal(f: &[u8], records: &[u32], handlers: &[u32], lines: &[u32], n: u32, r
     examine_tables(f, records, handlers, lines, count)
 }
 
-// Loads a file of at most so many records that meets none of 15 to 20 and 25; after a refusal every table is zeros alone.
+// Loads a file of at most so many records under an allowance, that meets none of 15 to 20 and 25; after a refusal every table is zeros alone.
 pub fn load_passing(
     f: &[u8],
     records: &mut [u32],
@@ -34,13 +36,14 @@ pub fn load_passing(
     files: &mut [u32],
     lines: &mut [u32],
     rows: usize,
+    a: Allowance,
 ) -> Loaded
     ensures { λ r. ⌜ loadedOf r (words (now (records .exit)) (now (handlers .exit)) (now (pool .exit)) (now (symbols .exit)) (now (strings .exit)) (now (names .exit))
         (now (filenames .exit)) (now (files .exit)) (now (lines .exit)))
         ≡ laid (sizes (words (now (records .entry)) (now (handlers .entry)) (now (pool .entry)) (now (symbols .entry)) (now (strings .entry)) (now (names .entry))
         (now (filenames .entry)) (now (files .entry)) (now (lines .entry))))
         (passingIn (now (f .entry)) (sizes (words (now (records .entry)) (now (handlers .entry)) (now (pool .entry)) (now (symbols .entry)) (now (strings .entry))
-        (now (names .entry)) (now (filenames .entry)) (now (files .entry)) (now (lines .entry)))) rows) ⌝ }
+        (now (names .entry)) (now (filenames .entry)) (now (files .entry)) (now (lines .entry)))) (allowanceOf a) rows) ⌝ }
 {
     match rite::load(
         f,
@@ -53,6 +56,7 @@ pub fn load_passing(
         filenames,
         files,
         lines,
+        a,
     ) {
         Loaded::Rows(u) => {
             let e = refusal(f, records, handlers, lines, u.records, rows);
@@ -76,7 +80,7 @@ pub fn load_passing(
     }
 }
 
-// Examines a file over nine lent tables: the rows used, where it passes, or the refusal's number; the tables as after a load.
+// Examines a file under an allowance over nine lent tables: the rows used, where it passes, or the refusal's number; the tables as after a load.
 pub fn examine(
     f: &[u8],
     records: &mut [u32],
@@ -88,11 +92,12 @@ pub fn examine(
     filenames: &mut [u32],
     files: &mut [u32],
     lines: &mut [u32],
+    a: Allowance,
 ) -> Loaded
     ensures { λ r. ⌜ loadedOf r (words (now (records .exit)) (now (handlers .exit)) (now (pool .exit)) (now (symbols .exit)) (now (strings .exit)) (now (names .exit))
         (now (filenames .exit)) (now (files .exit)) (now (lines .exit)))
         ≡ examine (now (f .entry)) (sizes (words (now (records .entry)) (now (handlers .entry)) (now (pool .entry)) (now (symbols .entry)) (now (strings .entry))
-        (now (names .entry)) (now (filenames .entry)) (now (files .entry)) (now (lines .entry)))) ⌝ }
+        (now (names .entry)) (now (filenames .entry)) (now (files .entry)) (now (lines .entry)))) (allowanceOf a) ⌝ }
 {
     load_passing(
         f,
@@ -105,6 +110,7 @@ pub fn examine(
         filenames,
         files,
         lines,
-        1024,
+        DESKTOP_RECORDS as usize,
+        a,
     )
 }

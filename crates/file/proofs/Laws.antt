@@ -10,6 +10,7 @@ use borrow.Author.Tests.{eq-eqb, ne-eqb}
 use Rattle.format.specs.Bytes.{has}
 use Rattle.format.specs.File.{fileRefusal}
 use Rattle.format.specs.Load.{Words}
+use Rattle.irep.specs.declared.Limits.{Limits}
 use Rattle.sections.specs.declared.Progress.{Progress}
 use Rattle.sections.specs.declared.Section.{Section}
 use Rattle.sections.specs.declared.Section.the-variants as section
@@ -19,7 +20,7 @@ use Rattle.file.specs.declared.Loaded.the-variants as loaded-is
 use Rattle.file.specs.File.{out, loaded, sectionOut, sectionsOut, fileOut}
 
 -- a file that its tests refuse, and one whose sections are read
-module _ (f : List ℕ) (limit : ℕ) (t : Words) (k : ℕ) (e : k ≡ fileRefusal f) where
+module _ (f : List ℕ) (limit : Limits) (t : Words) (k : ℕ) (e : k ≡ fileRefusal f (limit .bytes)) where
   pub file-refused : ¬ (k ≡ 0) → loaded (loaded-is.Refused k) t ≡ fileOut f limit t
   unfolding fileOut
   file-refused n = rw (← e, ne-eqb k 0 n)
@@ -41,7 +42,7 @@ pub record Same (t t′ : Words) : Type 0 where
   pub lines : length (t .lines) ≡ length (t′ .lines)
 
 -- a turn of the loop over sections: it goes on, it is refused, too few bytes are left, none is left to read
-module _ (f : List ℕ) (limit : ℕ) where
+module _ (f : List ℕ) (limit : Limits) where
   pub sections-go : (n at : ℕ) (t : Words) (p : Progress) (r : Section) (t′ : Words) (size : ℕ) (q : Progress) → 0 < n → has f at 4 ≡ true
       → out r t′ ≡ sectionOut f limit at t p → r ≡ section.Next size q → sectionsOut f limit (n - 1) (at + size) t′ q ≡ sectionsOut f limit n at t p
   unfolding sectionsOut

@@ -8,6 +8,7 @@ use lib.ListN.{length}
 use Rattle.format.specs.Bytes.{has}
 use Rattle.format.specs.File.{fileRefusal}
 use Rattle.format.specs.Load.{Words}
+use Rattle.irep.specs.declared.Limits.{Limits}
 use Rattle.sections.specs.declared.Progress.{Progress}
 use Rattle.sections.specs.declared.Section.{Section}
 use Rattle.sections.specs.declared.Section.the-variants as section
@@ -71,14 +72,14 @@ dbgIn t o =
     }
 
 -- the section at a place, by its mark
-abbrev pub byMark : List ℕ → ℕ → ℕ → Words → Progress → Mark → Out
+abbrev pub byMark : List ℕ → Limits → ℕ → Words → Progress → Mark → Out
 byMark f limit at t p mark-is.Irep = let o = irepOutOf f at limit (t .records) (t .handlers) (t .pool) (t .symbols) p in out (o .ans) (irepIn t o)
 byMark f limit at t p mark-is.Lvar = let o = lvarOutOf f at (t .records) (t .strings) (t .names) p in out (o .ans) (lvarIn t o)
 byMark f limit at t p mark-is.Dbg = let o = dbgOutOf f at (t .records) (t .fileNames) (t .files) (t .lines) p in out (o .ans) (dbgIn t o)
 byMark f limit at t p mark-is.End = out (endOutOf f at p) t
 byMark f limit at t p mark-is.Unknown = out (section.Refused 5) t
 
-unfoldable pub sectionOut : List ℕ → ℕ → ℕ → Words → Progress → Out
+unfoldable pub sectionOut : List ℕ → Limits → ℕ → Words → Progress → Out
 sectionOut f limit at t p = byMark f limit at t p (markOf f at)
 
 -- a file's answer with the nine tables as they are then
@@ -94,7 +95,7 @@ onSection (section.Next size p) k e = k size p
 onSection (section.Refused n) k e = e n
 
 -- at most n sections from a place on, until fewer than 4 bytes are left
-unfoldable pub sectionsOut : List ℕ → ℕ → ℕ → ℕ → Words → Progress → FileOut
+unfoldable pub sectionsOut : List ℕ → Limits → ℕ → ℕ → Words → Progress → FileOut
 sectionsOut f limit zero at t p = loaded (loaded-is.Rows (p .used)) t
 sectionsOut f limit (suc n) at t p =
     cond (has f at 4)
@@ -103,5 +104,7 @@ sectionsOut f limit (suc n) at t p =
     (loaded (loaded-is.Rows (p .used)) t)
 
 -- a file's tests, then its sections
-unfoldable pub fileOut : List ℕ → ℕ → Words → FileOut
-fileOut f limit t = cond (eqb (fileRefusal f) 0) (sectionsOut f limit (length f) 20 t begun) (loaded (loaded-is.Refused (fileRefusal f)) t)
+unfoldable pub fileOut : List ℕ → Limits → Words → FileOut
+fileOut f limit t =
+    let n = fileRefusal f (limit .bytes) in
+    cond (eqb n 0) (sectionsOut f limit (length f) 20 t begun) (loaded (loaded-is.Refused n) t)

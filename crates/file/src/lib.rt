@@ -1,5 +1,6 @@
 // A file's sections in turn, into nine lent tables.
 use binfmt::rest;
+use irep::Limits;
 use marks::Mark;
 use marks::peek4;
 use sections::Progress;
@@ -26,7 +27,7 @@ pub enum Loaded {
 fn read_section(
     f: &[u8],
     at: usize,
-    limit: u32,
+    limit: Limits,
     records: &mut [u32],
     handlers: &mut [u32],
     pool: &mut [u32],
@@ -56,7 +57,7 @@ fn read_section(
 // The sections from the file's header on, until fewer than four bytes are left.
 pub fn read_sections(
     f: &[u8],
-    limit: u32,
+    limit: Limits,
     records: &mut [u32],
     handlers: &mut [u32],
     pool: &mut [u32],

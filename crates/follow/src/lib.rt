@@ -1,5 +1,6 @@
 // The run of a file along a list of choices: it is loaded and examined, then followed.
 use examine::load_passing;
+use rite::Allowance;
 use rite::Loaded;
 use rows::clear;
 use run::Followed;
@@ -8,10 +9,10 @@ use tables::clear_all;
 ghost use mathlib.Core.Path.{_≡_};
 ghost use lib.ListN.{length};
 ghost use Rattle.format.specs.Run.{follow};
-ghost use Rattle.rite.specs.Answers.{words, sizes};
+ghost use Rattle.rite.specs.Answers.{words, sizes, allowanceOf};
 ghost use Rattle.follow.specs.Answers.{followed};
 
-// Follows the run of a file along choice bytes, over nine lent tables and a frame table: the tables as after a load, and the frames, lowest
+// Follows the run of a file under an allowance along choice bytes, over nine lent tables and a frame table: the tables as after a load, and the frames, lowest
 // first, then zeros; after a refusal every table is zeros alone.
 pub fn follow(
     f: &[u8],
@@ -26,11 +27,12 @@ pub fn follow(
     lines: &mut [u32],
     frames: &mut [u32],
     choices: &[u8],
+    a: Allowance,
 ) -> Followed
     ensures { λ r. ⌜ followed r (words (now (records .exit)) (now (handlers .exit)) (now (pool .exit)) (now (symbols .exit)) (now (strings .exit)) (now (names .exit))
         (now (filenames .exit)) (now (files .exit)) (now (lines .exit))) (now (frames .exit))
         ≡ follow (now (f .entry)) (sizes (words (now (records .entry)) (now (handlers .entry)) (now (pool .entry)) (now (symbols .entry)) (now (strings .entry))
-        (now (names .entry)) (now (filenames .entry)) (now (files .entry)) (now (lines .entry)))) (length (now (frames .entry))) (now (choices .entry)) ⌝ }
+        (now (names .entry)) (now (filenames .entry)) (now (files .entry)) (now (lines .entry)))) (allowanceOf a) (length (now (frames .entry))) (now (choices .entry)) ⌝ }
 {
     match load_passing(
         f,
@@ -44,6 +46,7 @@ pub fn follow(
         files,
         lines,
         frames.len() / 2,
+        a,
     ) {
         Loaded::Rows(u) => {
             let n = u.records as usize;

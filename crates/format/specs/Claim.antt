@@ -1,4 +1,5 @@
--- Demand 3: what holds of the run of a passing file along every list of choices, one claim about the whole list.
+-- Demand 3: what holds of the run of a passing file along every list of choices, one claim about the whole list. Paper 02, h): "Demand 3 is for
+-- one allowance".
 -- Assumes nothing.
 use Prim.Native.Nat.{ℕ, suc, _/_, _≤_, _<_}
 use mathlib.Core.Path.{_≡_}
@@ -11,6 +12,7 @@ use lib.ListN.{length, getD}
 use Rattle.format.specs.Bytes.{ok, refused}
 use Rattle.format.specs.Irep.{Rec}
 use Rattle.format.specs.Lvar.{Lvar}
+use Rattle.format.specs.Allowance.{Allowance}
 use Rattle.format.specs.File.{Content}
 use Rattle.format.specs.Load.{Nine, loading, recordsOf}
 use Rattle.format.specs.Insn.{plain, roles, rowAt, operandsAt}
@@ -37,13 +39,13 @@ pub record FrameHolds (p : Pattern) (f : Frame) : Type 0 where
 -- "Follow answers finished exactly when the run is, else top frame, line and number of frames, and its frame table holds the frames, lowest
 -- first, then zeros": a call of follow with these bytes, over lent tables in which the file loads and a frame table of n words that has a
 -- row for each record.
-pub record FollowHolds (f : List ℕ) (c : Content) (fs : List Frame) (m : Nine) (n : ℕ) (bs : List ℕ) : Type 0 where
-  pub done : (follow f m n bs .answer ≡ ok finished) ↔ (fs ≡ [])
+pub record FollowHolds (f : List ℕ) (c : Content) (fs : List Frame) (m : Nine) (a : Allowance) (n : ℕ) (bs : List ℕ) : Type 0 where
+  pub done : (follow f m a n bs .answer ≡ ok finished) ↔ (fs ≡ [])
   pub top : (g : Frame) (gs : List Frame) → fs ≡ g ∷ gs
-      → follow f m n bs .answer ≡ ok (stands g (lastAtOrBelow (recAt (patternOf f c) (g .rec) .lines) (g .at)) (length fs))
-  pub table : follow f m n bs .frames ≡ frameTable n fs
+      → follow f m a n bs .answer ≡ ok (stands g (lastAtOrBelow (recAt (patternOf f c) (g .rec) .lines) (g .at)) (length fs))
+  pub table : follow f m a n bs .frames ≡ frameTable n fs
 
-pub record Claim (f : List ℕ) (c : Content) (cs : List Choice) : Type 0 where
+pub record Claim (f : List ℕ) (a : Allowance) (c : Content) (cs : List Choice) : Type 0 where
   -- the run is finished, or each of its frames holds
   pub frames : (i : ℕ) → i < length (run (patternOf f c) cs) → FrameHolds (patternOf f c) (getD (run (patternOf f c) cs) i (frame 0 0))
   -- from the top down the records fall
@@ -54,8 +56,8 @@ pub record Claim (f : List ℕ) (c : Content) (cs : List Choice) : Type 0 where
   -- "with an LVAR section each record has nlocals - 1 names": one more than its names is nlocals
   pub names : (l : Lvar) → c .lvar ≡ some l → (i : ℕ) (r : Rec) → i < length (recordsOf c)
       → suc (length (getD (l .names) i [])) ≡ getD (recordsOf c) i r .head .nlocals
-  pub follows : (m : Nine) (n : ℕ) (bs : List ℕ) → loading f m ≡ ok c → length (recordsOf c) ≤ n / 2 → choices bs ≡ ok cs
-      → FollowHolds f c (run (patternOf f c) cs) m n bs
+  pub follows : (m : Nine) (n : ℕ) (bs : List ℕ) → loading f m a ≡ ok c → length (recordsOf c) ≤ n / 2 → choices bs ≡ ok cs
+      → FollowHolds f c (run (patternOf f c) cs) m a n bs
   -- "bytes that are no list of choices meet 21"
-  pub others : (m : Nine) (n : ℕ) (bs : List ℕ) → loading f m ≡ ok c → length (recordsOf c) ≤ n / 2 → ((ds : List Choice) → ¬ (choices bs ≡ ok ds))
-      → (follow f m n bs .answer ≡ refused 21) × (follow f m n bs .frames ≡ frameTable n [])
+  pub others : (m : Nine) (n : ℕ) (bs : List ℕ) → loading f m a ≡ ok c → length (recordsOf c) ≤ n / 2 → ((ds : List Choice) → ¬ (choices bs ≡ ok ds))
+      → (follow f m a n bs .answer ≡ refused 21) × (follow f m a n bs .frames ≡ frameTable n [])

@@ -9,6 +9,7 @@ use mathlib.Core.List.{List, [], _∷_}
 use lib.Dec.{T, ltb, leb, eqb}
 use lib.ListN.{length, getD}
 use Rattle.format.specs.Bytes.{Answer, ok, refused, bind, refuse, first, byte}
+use Rattle.format.specs.Allowance.{Allowance}
 use Rattle.format.specs.File.{Content}
 use Rattle.format.specs.Load.{Nine, Loaded, loading, laid}
 use Rattle.format.specs.Insn.{Role, reg, pool, sym, child, plain, Flow, on, ends, jumps, may, roles, flow, known, prefix, opcode, rowAt, operandsAt, rest, next}
@@ -155,11 +156,11 @@ pub data Meets (p : Pattern) : ℕ → Type 0 where
 abbrev pub Passes : Pattern → Type 0
 Passes p = (n : ℕ) → ¬ Meets p n
 
--- "A file that passes is one that loads in some lent tables and meets none of 15 to 20" and 25
-pub record FilePasses (f : List ℕ) : Type 0 where
+-- "A file that passes is one that loads in some lent tables and meets none of 15 to 20" and 25; paper 02, h): under an allowance
+pub record FilePasses (f : List ℕ) (a : Allowance) : Type 0 where
   pub tables : Nine
   pub content : Content
-  pub loads : loading f tables ≡ ok content
+  pub loads : loading f tables a ≡ ok content
   pub passes : Passes (patternOf f content)
 
 -- Examination. Its answer is a number, 0 where nothing is met.
@@ -213,9 +214,9 @@ unfoldable pub passing : List ℕ → Content → Answer Content
 passing f c = cond (eqb (examinePattern (patternOf f c)) 0) (ok c) (refused (examinePattern (patternOf f c)))
 
 -- "Examination loads the file first."
-unfoldable pub examining : List ℕ → Nine → Answer Content
-examining f m = bind (loading f m) (passing f)
+unfoldable pub examining : List ℕ → Nine → Allowance → Answer Content
+examining f m a = bind (loading f m a) (passing f)
 
 -- what an examination answers, and what the tables hold afterwards: the rows used, as load does
-unfoldable pub examine : List ℕ → Nine → Loaded
-examine f m = laid m (examining f m)
+unfoldable pub examine : List ℕ → Nine → Allowance → Loaded
+examine f m a = laid m (examining f m a)

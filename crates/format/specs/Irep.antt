@@ -1,7 +1,7 @@
 -- The IREP section as rows. f is the part of the file from the section's start on, and base is that start: rows hold places in the file.
--- Paper 01, 'Loading'; paper 02, d).
+-- Paper 01, 'Loading'; paper 02, d) and h).
 -- Assumes nothing.
-use Prim.Native.Nat.{ℕ, zero, suc, _+_}
+use Prim.Native.Nat.{ℕ, zero, suc, _+_, _-_}
 use mathlib.Core.Bool.{cond}
 use mathlib.Core.List.{List, []}
 use lib.Dec.{leb, eqb}
@@ -106,31 +106,34 @@ bodyAt f base clen at =
     part (body (h .rows) (p .rows) (s .rows)) (s .end)
 
 -- A record whose 16 bytes are there, with "ilen instruction bytes". "The next record starts at this start plus the stated size, wherever
--- reading ended"; "8: after its content, .. a record has size 0".
-unfoldable pub recordAt : List ℕ → ℕ → ℕ → Part Rec
-recordAt f base at =
+-- reading ended"; "8: after its content, .. a record has size 0". So many records are still allowed, this one among them; paper 02, h): "29 when
+-- .. its record number is beyond the caller's allowance .., at .. 14's [place]". Allowed or not, the record is read this far and needs its row, so
+-- "where the lent table is too short as well, 14".
+unfoldable pub recordAt : List ℕ → ℕ → ℕ → ℕ → Part Rec
+recordAt f base allowed at =
     let h = headAt f at in
     let is : Body → Rec = λ b. record { head = h; place = base + (at + 16); body = b } in
-    cond (has f (at + 16) (h .ilen))
+    cond (eqb allowed 0) (part (is (body [] [] [])) (refused 29))
+    (cond (has f (at + 16) (h .ilen))
     (let b = bodyAt f base (h .clen) (at + 16 + h .ilen) in
     part (is (b .it)) (bind (b .end) (λ _. cond (eqb (h .size) 0) (refused 8) (ok (at + h .size)))))
-    (part (is (body [] [] [])) (refused 7))
+    (part (is (body [] [] [])) (refused 7)))
 
 -- "records, which follow until the place reaches the section size". Each moves the place on, so as many as the file has bytes do.
-unfoldable pub recordsFrom : List ℕ → ℕ → ℕ → ℕ → ℕ → Read Rec
-recordsFrom f base size zero at = reading [] (ok at)
-recordsFrom f base size (suc n) at =
+unfoldable pub recordsFrom : List ℕ → ℕ → ℕ → ℕ → ℕ → ℕ → Read Rec
+recordsFrom f base size zero allowed at = reading [] (ok at)
+recordsFrom f base size (suc n) allowed at =
     cond (leb size at) (reading [] (ok at))
     (cond (has f at 16)
-    (let r = recordAt f base at in add (r .it) (andThen (r .end) (recordsFrom f base size n)))
+    (let r = recordAt f base allowed at in add (r .it) (andThen (r .end) (recordsFrom f base size n (allowed - 1))))
     (reading [] (refused 7)))
 
 -- The section: "IREP has 4 more header bytes; its size is tested against the file before its records". It ends on at its size.
-unfoldable pub irepSection : List ℕ → ℕ → Read Rec
-irepSection f base =
+unfoldable pub irepSection : List ℕ → ℕ → ℕ → Read Rec
+irepSection f base allowed =
     cond (has f 0 12)
     (cond (leb (u32At f 4) (length f))
-    (let r = recordsFrom f base (u32At f 4) (length f) 12 in
+    (let r = recordsFrom f base (u32At f 4) (length f) allowed 12 in
     reading (r .rows) (bind (r .end) (λ _. cond (eqb (u32At f 4) 0) (refused 8) (ok (u32At f 4)))))
     (reading [] (refused 7)))
     (reading [] (refused 7))

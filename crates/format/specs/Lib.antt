@@ -2,6 +2,7 @@ pub mod Bytes
 pub mod Headers
 pub mod Rows
 pub mod Reading
+pub mod Allowance
 pub mod Irep
 pub mod Walk
 pub mod Lvar

@@ -1,6 +1,6 @@
 -- Load: a file's reading and lent tables of given sizes. "14: a needed row is beyond its lent table or the 1,024 records": what was read is what
 -- was needed, so 14 is met where that does not fit; else the load ends as the reading does. Paper 02: a record's row has its depth and
--- parent, a); the answer carries the visits, m).
+-- parent, a); the answer carries the visits, m); a caller's allowance is an argument, h).
 -- Assumes nothing.
 use Prim.Native.Nat.{ℕ, _+_, _/_}
 use mathlib.Core.Bool.{Bool, cond, _&&_}
@@ -16,6 +16,7 @@ use Rattle.format.specs.Irep.{Rec}
 use Rattle.format.specs.Tree.{Node, alone, nodes}
 use Rattle.format.specs.Walk.{rlens, visits}
 use Rattle.format.specs.Debug.{File}
+use Rattle.format.specs.Allowance.{Allowance, desktop, granted}
 use Rattle.format.specs.File.{Content, nothing, fileReading}
 
 -- lists one after another
@@ -193,8 +194,13 @@ unfoldable pub ending : ℕ → Nine → Part Content → Answer Content
 ending limit m p =
     cond (fits limit m (used (tablesOf (p .it)))) (onAnswer (p .end) (λ _. ok (p .it)) refused) (refused 14)
 
-unfoldable pub loading : List ℕ → Nine → Answer Content
-loading f m = ending 1024 m (fileReading f)
+-- a file under an allowance, among so many records
+unfoldable pub loadingWithin : ℕ → Allowance → List ℕ → Nine → Answer Content
+loadingWithin most a f m = ending most m (fileReading f a)
+
+-- Paper 02, h): "One loader serves both, with the allowance as an argument".
+abbrev pub loading : List ℕ → Nine → Allowance → Answer Content
+loading f m a = loadingWithin (desktop .records) (granted a) f m
 
 -- the contents of the nine tables
 pub record Words : Type 0 where
@@ -233,5 +239,5 @@ laid m a =
     (λ c. record { answer = ok (counts c); tables = wordsOf m (tablesOf c) })
     (λ e. record { answer = refused e; tables = wordsOf m (tablesOf nothing) })
 
-unfoldable pub load : List ℕ → Nine → Loaded
-load f m = laid m (loading f m)
+unfoldable pub load : List ℕ → Nine → Allowance → Loaded
+load f m a = laid m (loading f m a)

@@ -7,6 +7,7 @@ use mathlib.Core.List.{List, [], _∷_, _++_}
 use lib.Dec.{ltb, leb, eqb}
 use lib.ListN.{length, getD, replicate}
 use Rattle.format.specs.Bytes.{Answer, ok, refused, bind, onAnswer}
+use Rattle.format.specs.Allowance.{Allowance}
 use Rattle.format.specs.File.{Content, nothing}
 use Rattle.format.specs.Load.{Nine, Words, recordsOf, loading, tablesOf, wordsOf}
 use Rattle.format.specs.Insn.{Role, reg, pool, sym, child, plain, Flow, on, ends, jumps, may, roles, flow, rowAt, operandsAt, next, target}
@@ -162,9 +163,9 @@ pub record Ran : Type 0 where
 
 -- "Follow loads, tests its frame table, examines, reads the whole choice list for 21, then runs": over a frame table of n words.
 -- "14: .. follow's frame table has fewer rows than the file has records, tested after loading"
-unfoldable pub following : List ℕ → Nine → ℕ → List ℕ → Answer Ran
-following f m n bs =
-    bind (loading f m) (λ c.
+unfoldable pub following : List ℕ → Nine → Allowance → ℕ → List ℕ → Answer Ran
+following f m a n bs =
+    bind (loading f m a) (λ c.
     cond (leb (length (recordsOf c)) (n / 2))
     (bind (passing f c) (λ _. bind (choices bs) (λ cs. ok (record { content = c; frames = run (patternOf f c) cs }))))
     (refused 14))
@@ -175,9 +176,9 @@ pub record Followed : Type 0 where
   pub tables : Words
   pub frames : List ℕ
 
-unfoldable pub follow : List ℕ → Nine → ℕ → List ℕ → Followed
-follow f m n bs =
-    onAnswer (following f m n bs)
+unfoldable pub follow : List ℕ → Nine → Allowance → ℕ → List ℕ → Followed
+follow f m a n bs =
+    onAnswer (following f m a n bs)
     (λ r.
     record {
       answer = ok (standing (patternOf f (r .content)) (r .frames));

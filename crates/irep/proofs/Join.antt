@@ -1,7 +1,7 @@
 -- The section over four zeroed tables goes as the reading that knows no table: where all rows fit, it ends as the reading does, and the tables
 -- hold the rows read and then zeros; else it is refused by 14.
 -- Assumes nothing.
-use Prim.Native.Nat.{ℕ, zero, suc, _+_, _≤_}
+use Prim.Native.Nat.{ℕ, zero, suc, _+_, _-_, _≤_}
 use native.Mathlib.Nat.{add-sub-cancel-left}
 use native.Mathlib.Omega.{arith}
 use mathlib.Core.Path.{_≡_, refl}
@@ -9,7 +9,7 @@ use mathlib.Core.Bool.{Bool, true, false, cond}
 use mathlib.Core.List.{List, [], _∷_, _++_, append-assoc, append-nil}
 use lib.Dec.{leb, eqb}
 use lib.ListN.{length, length-append}
-use borrow.Author.Tests.{leb-true, leb-false}
+use borrow.Author.Tests.{leb-true, leb-false, eq-eqb, ne-eqb}
 use Rattle.format.specs.Bytes.{ok, refused, bind, has, u32At}
 use Rattle.format.specs.Reading.{Read, reading, Part, part, andThen, inTurn}
 use Rattle.format.specs.Rows.{RecordRow, HandlerRow, PoolRow, TextRow, recordWidth, recordWords, handlerWords, poolWords, textWords, tableOf}
@@ -21,6 +21,7 @@ use Rattle.rows.specs.declared.Row.the-variants.{Pool, Symbol}
 use Rattle.rows.specs.Table.{out, rowCount, times}
 use Rattle.rows.specs.Rows.{handlerOf, poolOf, symbolOf, countedOf}
 use Rattle.rows.proofs.Join.{Ran, RowsRan, length-table, put-there, times-ran, counted-ran, handler-agrees, pool-agrees, symbol-agrees}
+use Rattle.irep.specs.declared.Limits.{Limits}
 use Rattle.irep.specs.declared.Used.{Used}
 use Rattle.irep.specs.declared.Content.the-variants as content
 use Rattle.irep.specs.declared.Reached.the-variants as reached
@@ -73,14 +74,14 @@ abbrev putAll : Held → List Rec → Held
 putAll b [] = b
 putAll b (r ∷ rs) = putAll (put b r) rs
 
-module _ (limit : ℕ) (m : Nine) where
+module _ (limit : Limits) (m : Nine) where
   abbrev BodyRan : Held → Part Body → Lists → Type 0
   BodyRan b p o =
-      Ran (p .end) (Room limit m (grow b (p .it)))
+      Ran (p .end) (Room (limit .most) m (grow b (p .it)))
       (λ at. o ≡ lists (content.Read (usedOf (grow b (p .it)))) (lentOf m (grow b (p .it)) .handlers) (lentOf m (grow b (p .it)) .pool) (lentOf m (grow b (p .it)) .symbols))
       (λ k. o .ans ≡ content.Refused k)
 
-  module _ (f : List ℕ) (base clen at : ℕ) (b : Held) (rm : Room limit m b) where
+  module _ (f : List ℕ) (base clen at : ℕ) (b : Held) (rm : Room (limit .most) m b) where
     abbrev O : Lists
     O = bodyOf f base clen at (lentOf m b .handlers) (lentOf m b .pool) (lentOf m b .symbols) (usedOf b)
 
@@ -140,13 +141,13 @@ module _ (limit : ℕ) (m : Nine) where
 
   abbrev RecordRan : Held → Part Rec → Run → Type 0
   RecordRan b p o =
-      Ran (p .end) (Room limit m (put b (p .it)))
+      Ran (p .end) (Room (limit .most) m (put b (p .it)))
       (λ at. o ≡ run (reached.Next at (usedOf (put b (p .it)))) (lentOf m (put b (p .it))))
       (λ k. o .ans ≡ reached.Refused k)
 
-  module _ (f : List ℕ) (base at : ℕ) (b : Held) (rm : Room limit m b) (there : has f at 16 ≡ true) where
+  module _ (f : List ℕ) (base at : ℕ) (b : Held) (rm : Room (limit .most) m b) (there : has f at 16 ≡ true) where
     abbrev Q : Part Rec
-    Q = recordAt f base at
+    Q = recordAt f base (limit .allowed - length (b .records)) at
 
     abbrev OO : Run
     OO = recordOf f base limit at (lentOf m b) (usedOf b)
@@ -160,10 +161,17 @@ module _ (limit : ℕ) (m : Nine) where
     abbrev records-length : length (lentOf m b .records) ≡ m .records
     records-length = length-table recordWords recordWidth (λ _. refl) (omega arith) (m .records) (b .records) (rm .records)
 
+    -- whether records are still allowed
+    none-left : leb (limit .allowed) (length (b .records)) ≡ true → eqb (limit .allowed - length (b .records)) 0 ≡ true
+    none-left c = eq-eqb (limit .allowed - length (b .records)) 0 (omega (arith, leb-true (limit .allowed) (length (b .records)) c))
+
+    some-left : leb (limit .allowed) (length (b .records)) ≡ false → eqb (limit .allowed - length (b .records)) 0 ≡ false
+    some-left c = ne-eqb (limit .allowed - length (b .records)) 0 (λ z. omega (arith, z, leb-false (limit .allowed) (length (b .records)) c))
+
     -- its row is there, so far as the records go
-    module _ (low : leb limit (length (b .records)) ≡ false) (free : leb (rowCount (m .records) recordWidth) (length (b .records)) ≡ false) where
-      limit′ : (r : Rec) → length (b .records ++ rowIn b r ∷ []) ≤ limit
-      limit′ r = omega (arith, row-more r, leb-false limit (length (b .records)) low)
+    module _ (low : leb (limit .most) (length (b .records)) ≡ false) (free : leb (rowCount (m .records) recordWidth) (length (b .records)) ≡ false) where
+      limit′ : (r : Rec) → length (b .records ++ rowIn b r ∷ []) ≤ limit .most
+      limit′ r = omega (arith, row-more r, leb-false (limit .most) (length (b .records)) low)
 
       records′ : (r : Rec) → length (b .records ++ rowIn b r ∷ []) ≤ rowCount (m .records) recordWidth
       records′ r = omega (arith, row-more r, leb-false (rowCount (m .records) recordWidth) (length (b .records)) free)
@@ -187,7 +195,7 @@ module _ (limit : ℕ) (m : Nine) where
           let q = put-there recordWords recordWidth (λ _. refl) (omega arith) (m .records) (b .records) (rowIn b (the-rec x)) next there in
           rw (z, w, q)
 
-      module _ (code : has f (at + 16) (headAt f at .ilen) ≡ true) where
+      module _ (more : leb (limit .allowed) (length (b .records)) ≡ false) (code : has f (at + 16) (headAt f at .ilen) ≡ true) where
         -- both sides, once the tests are passed
         abbrev Y : Lists
         Y = bodyOf f base (headAt f at .clen) (at + 16 + headAt f at .ilen) (lentOf m b .handlers) (lentOf m b .pool) (lentOf m b .symbols) (usedOf b)
@@ -200,16 +208,16 @@ module _ (limit : ℕ) (m : Nine) where
 
         run-is : OO ≡ through Y
         unfolding recordOf
-        run-is = rw (there, low, records-length, free, code)
+        run-is = rw (there, low, records-length, free, more, code)
 
         read-is : Q ≡ part (the-rec (X .it)) (bind (X .end) (λ _. cond (eqb (headAt f at .size) 0) (refused 8) (ok (at + headAt f at .size))))
         unfolding recordAt
-        read-is = rw code
+        read-is = rw (some-left more, code)
 
-        more-room : Room limit m (grow b (X .it)) → Room limit m (put b (the-rec (X .it)))
+        more-room : Room (limit .most) m (grow b (X .it)) → Room (limit .most) m (put b (the-rec (X .it)))
         more-room r = record { within = limit′ (the-rec (X .it)); records = records′ (the-rec (X .it)); handlers = r .handlers; pool = r .pool; symbols = r .symbols }
 
-        by-size : (a : ℕ) → X .end ≡ ok a → Room limit m (grow b (X .it))
+        by-size : (a : ℕ) → X .end ≡ ok a → Room (limit .most) m (grow b (X .it))
             → Y ≡ lists (content.Read (usedOf (grow b (X .it)))) (lentOf m (grow b (X .it)) .handlers) (lentOf m (grow b (X .it)) .pool) (lentOf m (grow b (X .it)) .symbols)
             → (c : Bool) → eqb (headAt f at .size) 0 ≡ c → RecordRan b Q OO
         by-size a e r d true z = rw (run-is, read-is, d, finish-zero (X .it) z, e, z) (Ran.stop 8 refl (more-room r) refl)
@@ -222,43 +230,42 @@ module _ (limit : ℕ) (m : Nine) where
             rw (run-is, read-is, d)
             (Ran.full (λ q. r (record { within = rm .within; records = rm .records; handlers = q .handlers; pool = q .pool; symbols = q .symbols })) refl)
 
-      by-code : (c : Bool) → has f (at + 16) (headAt f at .ilen) ≡ c → RecordRan b Q OO
-      unfolding recordOf recordAt
-      by-code true c = by-body c (body-ran f base (headAt f at .clen) (at + 16 + headAt f at .ilen) b rm)
-      by-code false c =
-          rw (there, low, records-length, free, c)
-          (Ran.stop 7 refl (record {
-            within = limit′ (the-rec (body [] [] []));
-            records = records′ (the-rec (body [] [] []));
-            handlers = rw append-nil
-                (rm .handlers);
-            pool = rw append-nil (rm .pool);
-            symbols = rw append-nil (rm .symbols);
-          }) refl)
+      bare-room : Room (limit .most) m (put b (the-rec (body [] [] [])))
+      bare-room = record { within = limit′ (the-rec (body [] [] [])); records = records′ (the-rec (body [] [] [])); handlers = rw append-nil (rm .handlers); pool = rw append-nil (rm .pool); symbols = rw append-nil (rm .symbols) }
 
-    by-rows : leb limit (length (b .records)) ≡ false → (c : Bool) → leb (rowCount (m .records) recordWidth) (length (b .records)) ≡ c → RecordRan b Q OO
+      by-code : leb (limit .allowed) (length (b .records)) ≡ false → (c : Bool) → has f (at + 16) (headAt f at .ilen) ≡ c → RecordRan b Q OO
+      unfolding recordOf recordAt
+      by-code more true c = by-body more c (body-ran f base (headAt f at .clen) (at + 16 + headAt f at .ilen) b rm)
+      by-code more false c = rw (there, low, records-length, free, more, some-left more, c) (Ran.stop 7 refl bare-room refl)
+
+      by-allowed : (c : Bool) → leb (limit .allowed) (length (b .records)) ≡ c → RecordRan b Q OO
+      unfolding recordOf recordAt
+      by-allowed true c = rw (there, low, records-length, free, c, none-left c) (Ran.stop 29 refl bare-room refl)
+      by-allowed false c = by-code c (has f (at + 16) (headAt f at .ilen)) refl
+
+    by-rows : leb (limit .most) (length (b .records)) ≡ false → (c : Bool) → leb (rowCount (m .records) recordWidth) (length (b .records)) ≡ c → RecordRan b Q OO
     unfolding recordOf
     by-rows low true c =
         rw (there, low, records-length, c)
         (Ran.full (λ r. omega (arith, row-more (Q .it), leb-true (rowCount (m .records) recordWidth) (length (b .records)) c, r .records)) refl)
-    by-rows low false c = by-code low c (has f (at + 16) (headAt f at .ilen)) refl
+    by-rows low false c = by-allowed low c (leb (limit .allowed) (length (b .records))) refl
 
-    by-limit : (c : Bool) → leb limit (length (b .records)) ≡ c → RecordRan b Q OO
+    by-limit : (c : Bool) → leb (limit .most) (length (b .records)) ≡ c → RecordRan b Q OO
     unfolding recordOf
-    by-limit true c = rw (there, c) (Ran.full (λ r. omega (arith, row-more (Q .it), leb-true limit (length (b .records)) c, r .within)) refl)
+    by-limit true c = rw (there, c) (Ran.full (λ r. omega (arith, row-more (Q .it), leb-true (limit .most) (length (b .records)) c, r .within)) refl)
     by-limit false c = by-rows c (leb (rowCount (m .records) recordWidth) (length (b .records))) refl
 
     record-ran : RecordRan b Q OO
-    record-ran = by-limit (leb limit (length (b .records))) refl
+    record-ran = by-limit (leb (limit .most) (length (b .records))) refl
 
   abbrev RecordsRan : Held → Read Rec → Run → Type 0
   RecordsRan b r o =
-      Ran (r .end) (Room limit m (putAll b (r .rows)))
+      Ran (r .end) (Room (limit .most) m (putAll b (r .rows)))
       (λ at. o ≡ run (reached.Next at (usedOf (putAll b (r .rows)))) (lentOf m (putAll b (r .rows))))
       (λ k. o .ans ≡ reached.Refused k)
 
   -- room for more is room for less
-  room-back : (b : Held) (r : Rec) → Room limit m (put b r) → Room limit m b
+  room-back : (b : Held) (r : Rec) → Room (limit .most) m (put b r) → Room (limit .most) m b
   room-back b r x =
       record {
         within = omega (arith, length-append (b .records) (rowIn b r ∷ []), x .within);
@@ -268,21 +275,28 @@ module _ (limit : ℕ) (m : Nine) where
         symbols = omega (arith, length-append (b .symbols) (r .body .symbols), x .symbols);
       }
 
-  room-less : (rs : List Rec) (b : Held) → Room limit m (putAll b rs) → Room limit m b
+  room-less : (rs : List Rec) (b : Held) → Room (limit .most) m (putAll b rs) → Room (limit .most) m b
   room-less [] b x = x
   room-less (r ∷ rs) b x = room-back b r (room-less rs (put b r) x)
 
   module _ (f : List ℕ) (base size : ℕ) where
     abbrev Turns : ℕ → ℕ → Held → Type 0
-    Turns n at b = RecordsRan b (recordsFrom f base size n at) (recordsOf f base size limit n at (lentOf m b) (usedOf b))
+    Turns n at b = RecordsRan b (recordsFrom f base size n (limit .allowed - length (b .records)) at) (recordsOf f base size limit n at (lentOf m b) (usedOf b))
 
-    module _ (n at : ℕ) (b : Held) (rm : Room limit m b) (ih : (at : ℕ) (b : Held) → Room limit m b → Turns n at b) where
-      by-record : leb size at ≡ false → has f at 16 ≡ true → RecordRan b (recordAt f base at) (recordOf f base limit at (lentOf m b) (usedOf b)) → Turns (suc n) at b
+    -- one record more is one fewer still allowed
+    one-fewer : (b : Held) (r : Rec) → limit .allowed - length (b .records) - 1 ≡ limit .allowed - length (put b r .records)
+    one-fewer b r = omega (arith, length-append (b .records) (rowIn b r ∷ []))
+
+    module _ (n at : ℕ) (b : Held) (rm : Room (limit .most) m b) (ih : (at : ℕ) (b : Held) → Room (limit .most) m b → Turns n at b) where
+      abbrev R : Part Rec
+      R = recordAt f base (limit .allowed - length (b .records)) at
+
+      by-record : leb size at ≡ false → has f at 16 ≡ true → RecordRan b R (recordOf f base limit at (lentOf m b) (usedOf b)) → Turns (suc n) at b
       unfolding recordsFrom recordsOf
-      by-record x y (Ran.went next e r d) = rw (x, y, d, e) (ih next (put b (recordAt f base at .it)) r)
+      by-record x y (Ran.went next e r d) = rw (x, y, d, e, one-fewer b (R .it)) (ih next (put b (R .it)) r)
       by-record x y (Ran.stop e q r d) = rw (x, y, d, q) (Ran.stop e refl r refl)
       by-record x y (Ran.full r d) =
-          rw (x, y, d) (Ran.full (λ z. r (room-less (andThen (recordAt f base at .end) (recordsFrom f base size n) .rows) (put b (recordAt f base at .it)) z)) refl)
+          rw (x, y, d) (Ran.full (λ z. r (room-less (andThen (R .end) (recordsFrom f base size n (limit .allowed - length (b .records) - 1)) .rows) (put b (R .it)) z)) refl)
 
       by-there : leb size at ≡ false → (c : Bool) → has f at 16 ≡ c → Turns (suc n) at b
       unfolding recordsFrom recordsOf recordOf
@@ -294,7 +308,7 @@ module _ (limit : ℕ) (m : Nine) where
       by-end true x = rw x (Ran.went at refl rm refl)
       by-end false x = by-there x (has f at 16) refl
 
-    records-ran : (n at : ℕ) (b : Held) → Room limit m b → Turns n at b
+    records-ran : (n at : ℕ) (b : Held) → Room (limit .most) m b → Turns n at b
     unfolding recordsFrom recordsOf
     records-ran zero at b rm = Ran.went at refl rm refl
     records-ran (suc n) at b rm = by-end n at b rm (records-ran n) (leb size at) refl
@@ -323,15 +337,15 @@ held rs =
       symbols = gathered (λ r. r .body .symbols) rs;
     }
 
-module _ (limit : ℕ) (m : Nine) where
+module _ (limit : Limits) (m : Nine) where
   -- how a run of the section goes with a reading of it
   abbrev pub IrepRan : Read Rec → SectionRun → Type 0
   IrepRan r o =
-      Ran (r .end) (Room limit m (held (r .rows)))
+      Ran (r .end) (Room (limit .most) m (held (r .rows)))
       (λ size. o ≡ sectionRun (section.Next size (usedOf (held (r .rows)))) (lentOf m (held (r .rows))))
       (λ k. o .ans ≡ section.Refused k)
 
-  empty-room : Room limit m (held [])
+  empty-room : Room (limit .most) m (held [])
   empty-room = record { within = omega arith; records = omega arith; handlers = omega arith; pool = omega arith; symbols = omega arith }
 
   module _ (f : List ℕ) (base : ℕ) where
@@ -339,13 +353,13 @@ module _ (limit : ℕ) (m : Nine) where
     size = u32At f 4
 
     abbrev r : Read Rec
-    r = recordsFrom f base size (length f) 12
+    r = recordsFrom f base size (length f) (limit .allowed) 12
 
     abbrev o : Run
     o = recordsOf f base size limit (length f) 12 (lentOf m (held [])) unused
 
     abbrev Goal : Type 0
-    Goal = IrepRan (irepSection f base) (irepOf f base limit (lentOf m (held [])))
+    Goal = IrepRan (irepSection f base (limit .allowed)) (irepOf f base limit (lentOf m (held [])))
 
     module _ (there : has f 0 12 ≡ true) (inside : leb size (length f) ≡ true) where
       section-run : irepOf f base limit (lentOf m (held []))
@@ -353,11 +367,11 @@ module _ (limit : ℕ) (m : Nine) where
       unfolding irepOf
       section-run = rw (there, inside)
 
-      section-read : irepSection f base ≡ reading (r .rows) (bind (r .end) (λ _. cond (eqb size 0) (refused 8) (ok size)))
+      section-read : irepSection f base (limit .allowed) ≡ reading (r .rows) (bind (r .end) (λ _. cond (eqb size 0) (refused 8) (ok size)))
       unfolding irepSection
       section-read = rw (there, inside)
 
-      by-zero : (at : ℕ) → r .end ≡ ok at → Room limit m (held (r .rows)) → o ≡ run (reached.Next at (usedOf (held (r .rows)))) (lentOf m (held (r .rows))) → (c : Bool) → eqb size 0 ≡ c → Goal
+      by-zero : (at : ℕ) → r .end ≡ ok at → Room (limit .most) m (held (r .rows)) → o ≡ run (reached.Next at (usedOf (held (r .rows)))) (lentOf m (held (r .rows))) → (c : Bool) → eqb size 0 ≡ c → Goal
       by-zero at e x d true z = rw (section-run, section-read, d, e, z) (Ran.stop 8 refl x refl)
       by-zero at e x d false z = rw (section-run, section-read, d, e, z) (Ran.went size refl x refl)
 
@@ -368,7 +382,7 @@ module _ (limit : ℕ) (m : Nine) where
 
     by-stated : has f 0 12 ≡ true → (c : Bool) → leb size (length f) ≡ c → Goal
     unfolding irepOf irepSection
-    by-stated t true e = by-run t e (records-ran limit m f base size (length f) 12 (held []) empty-room)
+    by-stated t true e = let z : limit .allowed - 0 ≡ limit .allowed = omega arith in by-run t e (rw z at (records-ran limit m f base size (length f) 12 (held []) empty-room))
     by-stated t false e = rw (t, e) (Ran.stop 7 refl empty-room refl)
 
     by-header : (c : Bool) → has f 0 12 ≡ c → Goal
@@ -377,5 +391,5 @@ module _ (limit : ℕ) (m : Nine) where
     by-header false t = rw t (Ran.stop 7 refl empty-room refl)
 
     -- the join: answer and all four tables
-    pub irep-ran : IrepRan (irepSection f base) (irepOf f base limit (lentOf m (held [])))
+    pub irep-ran : IrepRan (irepSection f base (limit .allowed)) (irepOf f base limit (lentOf m (held [])))
     irep-ran = by-header (has f 0 12) refl

@@ -20,6 +20,7 @@ use Rattle.headers_irep.specs.declared.SectionIrepHeaderRead.{SectionIrepHeader
 use Rattle.headers_irep.specs.declared.IrepRecordRead.{IrepRecordRead}
 use Rattle.headers_irep.specs.Headers.{sectionIrepHeaderOf, irepRecordOf}
 use Rattle.rows.specs.Table.{rowCount}
+use Rattle.irep.specs.declared.Limits.{Limits}
 use Rattle.irep.specs.declared.Used.{Used}
 use Rattle.irep.specs.declared.Content.{Content}
 use Rattle.irep.specs.declared.Content.the-variants as content
@@ -85,22 +86,23 @@ module _ (at : ℕ) where
       by-size false b = by-row (eqb-false (h .size) 0 b) b (ltb (u .records) (rowCount (length records) recordWidth)) refl
 
 -- a record moves the place on
-pub record-next : (f : List ℕ) (base limit at : ℕ) (t : Lent) (u : Used) (next : ℕ) (v : Used) → recordOf f base limit at t u .ans ≡ Next next v → at < next
+pub record-next : (f : List ℕ) (base : ℕ) (limit : Limits) (at : ℕ) (t : Lent) (u : Used) (next : ℕ) (v : Used) → recordOf f base limit at t u .ans ≡ Next next v → at < next
 unfolding recordOf Later
 record-next f base limit at t u =
     let P : Run → Type 0 = λ x. Later at (x .ans) in
     let h = headAt f at in
     either P (has f at 16) _ _
-    (λ _. either P (leb limit (u .records)) _ _ (λ _. refuses at 14)
+    (λ _. either P (leb (limit .most) (u .records)) _ _ (λ _. refuses at 14)
     (λ _. either P (leb (rowCount (length (t .records)) recordWidth) (u .records)) _ _ (λ _. refuses at 14)
+    (λ _. either P (leb (limit .allowed) (u .records)) _ _ (λ _. refuses at 29)
     (λ _. either P (has f (at + 16) (h .ilen)) _ _
     (λ _. after at (bodyOf f base (h .clen) (at + 16 + h .ilen) (t .handlers) (t .pool) (t .symbols) u .ans) _ _
     (λ v. finish-later at h base (t .records) u v)
     (λ k. refuses at k))
-    (λ _. refuses at 7))))
+    (λ _. refuses at 7)))))
     (λ _. refuses at 7)
 
-module _ (f : List ℕ) (base size limit at : ℕ) (t : Lent) (u : Used) where
+module _ (f : List ℕ) (base size : ℕ) (limit : Limits) (at : ℕ) (t : Lent) (u : Used) where
   -- the place reaches the size
   pub records-done : (n : ℕ) → size ≤ at → run (Next at u) t ≡ recordsOf f base size limit n at t u
   unfolding recordsOf

@@ -13,6 +13,7 @@ use Rattle.headers_irep.specs.declared.IrepRecord.{IrepRecord}
 use Rattle.rows.specs.declared.Row.the-variants.{Handler, Pool, Symbol}
 use Rattle.rows.specs.Table.{rowCount, onRows, putOf, times}
 use Rattle.rows.specs.Rows.{rowOf, countedOf}
+use Rattle.irep.specs.declared.Limits.{Limits}
 use Rattle.irep.specs.declared.Used.{Used}
 use Rattle.irep.specs.declared.Header.{Header}
 use Rattle.irep.specs.declared.Content.{Content}
@@ -137,22 +138,23 @@ finishOf h base at records u v =
     (λ next n. placed (reached.Next next (record { records = n; handlers = v .handlers; pool = v .pool; symbols = v .symbols })) (p .tab))
     (λ k. placed (reached.Refused k) (p .tab)))
 
--- a record: its 16 bytes, its row needed, its instructions, its lists, its row
-unfoldable pub recordOf : List ℕ → ℕ → ℕ → ℕ → Lent → Used → Run
+-- a record: its 16 bytes, its row needed, the allowance, its instructions, its lists, its row
+unfoldable pub recordOf : List ℕ → ℕ → Limits → ℕ → Lent → Used → Run
 recordOf f base limit at t u =
     cond (has f at 16)
-    (cond (leb limit (u .records)) (run (reached.Refused 14) t)
+    (cond (leb (limit .most) (u .records)) (run (reached.Refused 14) t)
     (cond (leb (rowCount (length (t .records)) recordWidth) (u .records)) (run (reached.Refused 14) t)
+    (cond (leb (limit .allowed) (u .records)) (run (reached.Refused 29) t)
     (cond (has f (at + 16) (headAt f at .ilen))
     (let b = bodyOf f base (headAt f at .clen) (at + 16 + headAt f at .ilen) (t .handlers) (t .pool) (t .symbols) u in
     onContent (b .ans)
     (λ v. let p = finishOf (headAt f at) base at (t .records) u v in run (p .ans) (lent (p .records) (b .handlers) (b .pool) (b .symbols)))
     (λ k. run (reached.Refused k) (lent (t .records) (b .handlers) (b .pool) (b .symbols))))
-    (run (reached.Refused 7) t))))
+    (run (reached.Refused 7) t)))))
     (run (reached.Refused 7) t)
 
 -- records while the place is below the section's size
-unfoldable pub recordsOf : List ℕ → ℕ → ℕ → ℕ → ℕ → ℕ → Lent → Used → Run
+unfoldable pub recordsOf : List ℕ → ℕ → ℕ → Limits → ℕ → ℕ → Lent → Used → Run
 recordsOf f base size limit zero at t u = run (reached.Next at u) t
 recordsOf f base size limit (suc n) at t u =
     cond (leb size at) (run (reached.Next at u) t)
@@ -160,7 +162,7 @@ recordsOf f base size limit (suc n) at t u =
     onReached (r .ans) (λ next v. recordsOf f base size limit n next (r .tabs) v) (λ k. run (reached.Refused k) (r .tabs)))
 
 -- the section: its 12 bytes, its size against the file, its records, then 8 where its size is 0
-unfoldable pub irepOf : List ℕ → ℕ → ℕ → Lent → SectionRun
+unfoldable pub irepOf : List ℕ → ℕ → Limits → Lent → SectionRun
 irepOf f base limit t =
     cond (has f 0 12)
     (cond (leb (u32At f 4) (length f))

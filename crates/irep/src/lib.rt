@@ -21,6 +21,13 @@ ghost use Rattle.format.specs.Rows.{recordWords};
 ghost use Rattle.format.specs.Irep.{headAt};
 ghost use Rattle.irep.specs.Record.{headOf, headOfBytes, lent, lists, placed, run, sectionRun, rowIs, bodyOf, finishOf, recordOf, recordsOf, irepOf};
 
+// How far a load may go: the bytes and the records that the caller allows, and how many records there can be.
+pub struct Limits {
+    pub bytes: u32,
+    pub allowed: u32,
+    pub most: u32,
+}
+
 // How many rows of each table are used.
 pub struct Used {
     pub records: u32,
@@ -190,7 +197,7 @@ fn finish(h: Header, base: usize, at: usize, records: &mut [u32], u: Used, v: Us
 fn read_record(
     f: &[u8],
     base: usize,
-    limit: u32,
+    limit: Limits,
     at: usize,
     records: &mut [u32],
     handlers: &mut [u32],
@@ -206,11 +213,14 @@ fn read_record(
         return Reached::Refused(7);
     }
     let h = read_header(f, at);
-    if limit <= u.records {
+    if limit.most <= u.records {
         return Reached::Refused(14);
     }
     if row_count(records.len(), RECORD_WIDTH) <= u.records {
         return Reached::Refused(14);
+    }
+    if limit.allowed <= u.records {
+        return Reached::Refused(29);
     }
     if rest(f, at + 16) < (h.ilen as usize) {
         return Reached::Refused(7);
@@ -235,7 +245,7 @@ fn read_records(
     f: &[u8],
     base: usize,
     size: usize,
-    limit: u32,
+    limit: Limits,
     from: usize,
     records: &mut [u32],
     handlers: &mut [u32],
@@ -267,7 +277,7 @@ fn read_records(
 pub fn section_irep_1(
     f: &[u8],
     base: usize,
-    limit: u32,
+    limit: Limits,
     records: &mut [u32],
     handlers: &mut [u32],
     pool: &mut [u32],

@@ -11,6 +11,7 @@ use lib.ListN.{length, getD}
 use borrow.Author.Tests.{eqb-true}
 use Rattle.format.specs.Bytes.{Answer, ok, refused, bind, onAnswer, Step, has}
 use Rattle.format.specs.Reading.{Read, Part, part, andThen, more, inTurn}
+use Rattle.format.specs.Allowance.{Allowance}
 use Rattle.format.specs.File.{Content, sectionAt, sections, nothing, fileRefusal, fileReading}
 use Rattle.format.proofs.Answers.{ok-refused, either, Answers}
 use Rattle.format.proofs.File.{Accepted, accepted}
@@ -53,26 +54,26 @@ abbrev pub GoodRows : {R : Type 0} → (List R → Type 0) → Read R → Type 0
 GoodRows P x = (to : ℕ) → x .end ≡ ok to → P (x .rows)
 
 -- what each section that ends well keeps, a file that ends well keeps
-module _ (f : List ℕ) (P : Content → Type 0) (keeps : (c : Content) (at : ℕ) → P c → Good P (sectionAt f c at)) where
-  sections-keep : (n : ℕ) (c : Content) (at : ℕ) → P c → Good P (sections f n c at)
+module _ (f : List ℕ) (a : Allowance) (P : Content → Type 0) (keeps : (c : Content) (at : ℕ) → P c → Good P (sectionAt f (a .records) c at)) where
+  sections-keep : (n : ℕ) (c : Content) (at : ℕ) → P c → Good P (sections f (a .records) n c at)
   unfolding sections
   sections-keep zero c at x to e = x
-  sections-keep (suc n) c at x to e = go (has f at 4) (sectionAt f c at .end) refl e (sections-keep n)
+  sections-keep (suc n) c at x to e = go (has f at 4) (sectionAt f (a .records) c at .end) refl e (sections-keep n)
     where
-      go : (b : Bool) (a : Answer ℕ) → sectionAt f c at .end ≡ a
-          → cond b (onAnswer a (λ size. sections f n (sectionAt f c at .it) (at + size)) (λ k. part (sectionAt f c at .it) (refused k))) (part c (ok at)) .end ≡ ok to
-          → ((c : Content) (at : ℕ) → P c → Good P (sections f n c at))
-          → P (cond b (onAnswer a (λ size. sections f n (sectionAt f c at .it) (at + size)) (λ k. part (sectionAt f c at .it) (refused k))) (part c (ok at)) .it)
-      go false a q e ih = x
-      go true (ok size) q e ih = ih (sectionAt f c at .it) (at + size) (keeps c at x size q) to e
+      go : (b : Bool) (q′ : Answer ℕ) → sectionAt f (a .records) c at .end ≡ q′
+          → cond b (onAnswer q′ (λ size. sections f (a .records) n (sectionAt f (a .records) c at .it) (at + size)) (λ k. part (sectionAt f (a .records) c at .it) (refused k))) (part c (ok at)) .end ≡ ok to
+          → ((c : Content) (at : ℕ) → P c → Good P (sections f (a .records) n c at))
+          → P (cond b (onAnswer q′ (λ size. sections f (a .records) n (sectionAt f (a .records) c at .it) (at + size)) (λ k. part (sectionAt f (a .records) c at .it) (refused k))) (part c (ok at)) .it)
+      go false q′ q e ih = x
+      go true (ok size) q e ih = ih (sectionAt f (a .records) c at .it) (at + size) (keeps c at x size q) to e
       go true (refused k) q e ih = absurd (ok-refused e)
 
-  pub reading-keeps : P nothing → Good P (fileReading f)
+  pub reading-keeps : P nothing → Good P (fileReading f a)
   unfolding fileReading
-  reading-keeps x = either (Good P) (eqb (fileRefusal f) 0) _ _ (λ _. sections-keep (length f) nothing 20 x) (λ _ to e. x)
+  reading-keeps x = either (Good P) (eqb (fileRefusal f (a .bytes)) 0) _ _ (λ _. sections-keep (length f) nothing 20 x) (λ _ to e. x)
 
 -- a file that nothing refuses is one that its tests accept
-pub reading-accepted : (f : List ℕ) → Good (λ _. Accepted f) (fileReading f)
+pub reading-accepted : (f : List ℕ) (a : Allowance) → Good (λ _. Accepted f (a .bytes)) (fileReading f a)
 unfolding fileReading
-reading-accepted f =
-    either (Good (λ _. Accepted f)) (eqb (fileRefusal f) 0) _ _ (λ z to e. accepted f (eqb-true _ _ z)) (λ _ to e. absurd (ok-refused e))
+reading-accepted f a =
+    either (Good (λ _. Accepted f (a .bytes))) (eqb (fileRefusal f (a .bytes)) 0) _ _ (λ z to e. accepted f (a .bytes) (eqb-true _ _ z)) (λ _ to e. absurd (ok-refused e))

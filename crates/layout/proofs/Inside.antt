@@ -19,8 +19,9 @@ use Rattle.format.specs.Irep.{handler, poolText, symbolText, bytes, bigInteger,
 use Rattle.format.specs.Walk.{walk}
 use Rattle.format.specs.Lvar.{plainText, nameEntry, recordNames, Lvar, lvarSection}
 use Rattle.format.specs.Debug.{FileHead, above, fileHead, fileLines, File, filesFrom, debugRecord, Debug, debugContent, debugSection}
+use Rattle.format.specs.Allowance.{Allowance, granted}
 use Rattle.format.specs.File.{Content, isMark, once, afterIrep, sectionAt, nothing, fileReading}
-use Rattle.format.specs.Load.{Nine, recordsOf, stringsOf, namesOf, fileNamesOf, filesOf, tablesOf, used, fits, ending, loading}
+use Rattle.format.specs.Load.{Nine, recordsOf, stringsOf, namesOf, fileNamesOf, filesOf, tablesOf, used, fits, ending, loadingWithin, loading}
 use Rattle.format.proofs.Table.{both}
 use Rattle.format.proofs.Answers.{false-true, ok-refused, either, Answers, implied, tested, chained, inTurn-all}
 use Rattle.format.proofs.Texts.{NoZero, no-zero}
@@ -175,9 +176,10 @@ module _ (f : List ℕ) (base : ℕ) (all : List ℕ) (part-of : PartOf f base a
         symbols = andThen-each (SymbolInside all) (p .end) (counted f (symbolText f base)) (counted-each (SymbolInside all) (symbolText f base) symbol-inside);
       }
 
-  record-inside : (at : ℕ) → has f at 16 ≡ true → Good (RecInside all) (recordAt f base at)
+  record-inside : (allowed at : ℕ) → has f at 16 ≡ true → Good (RecInside all) (recordAt f base allowed at)
   unfolding recordAt
-  record-inside at a =
+  record-inside allowed at a =
+      either (Good (RecInside all)) (eqb allowed 0) _ _ (λ _ to e. absurd (ok-refused e)) (λ _.
       either (Good (RecInside all)) (has f (at + 16) (headAt f at .ilen)) _ _
       (λ b to e.
       let h = headAt f at in
@@ -192,32 +194,32 @@ module _ (f : List ℕ) (base : ℕ) (all : List ℕ) (part-of : PartOf f base a
         pool = l .pool;
         symbols = l .symbols;
       })
-      (λ _ to e. absurd (ok-refused e))
+      (λ _ to e. absurd (ok-refused e)))
     where
       nonzero : (k m to : ℕ) → cond (eqb k 0) (refused 8) (ok m) ≡ ok to → 0 < k
       nonzero zero m to e = absurd (ok-refused e)
       nonzero (suc k) m to e = omega arith
 
-  records-from : (size m at : ℕ) → GoodRows (Each (RecInside all)) (recordsFrom f base size m at)
+  records-from : (size m allowed at : ℕ) → GoodRows (Each (RecInside all)) (recordsFrom f base size m allowed at)
   unfolding recordsFrom
-  records-from size zero at = λ to e. each-none (RecInside all)
-  records-from size (suc m) at =
+  records-from size zero allowed at = λ to e. each-none (RecInside all)
+  records-from size (suc m) allowed at =
       either (GoodRows (Each (RecInside all))) (leb size at) _ _ (λ _ to e. each-none (RecInside all)) (λ _.
       either (GoodRows (Each (RecInside all))) (has f at 16) _ _
       (λ a to e.
-      let r = recordAt f base at in
-      let x = andThen-ok (r .end) (recordsFrom f base size m) to e in
-      each-more (RecInside all) (r .it) (andThen (r .end) (recordsFrom f base size m) .rows) (record-inside at a (x .0) (x .1)) (rw (x .1) (records-from size m (x .0) to (x .2))))
+      let r = recordAt f base allowed at in
+      let x = andThen-ok (r .end) (recordsFrom f base size m (allowed - 1)) to e in
+      each-more (RecInside all) (r .it) (andThen (r .end) (recordsFrom f base size m (allowed - 1)) .rows) (record-inside allowed at a (x .0) (x .1)) (rw (x .1) (records-from size m (allowed - 1) (x .0) to (x .2))))
       (λ _ to e. absurd (ok-refused e)))
 
-  pub irep-inside : GoodRows (Each (RecInside all)) (irepSection f base)
+  pub irep-inside : (allowed : ℕ) → GoodRows (Each (RecInside all)) (irepSection f base allowed)
   unfolding irepSection
-  irep-inside =
+  irep-inside allowed =
       either (GoodRows (Each (RecInside all))) (has f 0 12) _ _
       (λ _. either (GoodRows (Each (RecInside all))) (leb (u32At f 4) (length f)) _ _
       (λ _ to e.
-      let x = bind-ok (recordsFrom f base (u32At f 4) (length f) 12 .end) (λ _. cond (eqb (u32At f 4) 0) (refused 8) (ok (u32At f 4))) to e in
-      records-from (u32At f 4) (length f) 12 (x .0) (x .1))
+      let x = bind-ok (recordsFrom f base (u32At f 4) (length f) allowed 12 .end) (λ _. cond (eqb (u32At f 4) 0) (refused 8) (ok (u32At f 4))) to e in
+      records-from (u32At f 4) (length f) allowed 12 (x .0) (x .1))
       (λ _ to e. absurd (ok-refused e)))
       (λ _ to e. absurd (ok-refused e))
 
@@ -368,12 +370,12 @@ module _ (f : List ℕ) where
   nothing-inside : length f ≤ 65536 → Inside f nothing
   nothing-inside h = record { small = h; records = each-none _; strings = each-none _; names = each-none _; fileNames = each-none _; files = each-none _ }
 
-  section-inside : (c : Content) (at : ℕ) → Inside f c → Good (Inside f) (sectionAt f c at)
+  section-inside : (allowed : ℕ) (c : Content) (at : ℕ) → Inside f c → Good (Inside f) (sectionAt f allowed c at)
   unfolding sectionAt
-  section-inside c at x =
+  section-inside allowed c at x =
       either (Good (Inside f)) (isMark f at mark.irep) _ _
       (λ _. once-good (Inside f) c (c .irep) _ (λ to e.
-      record { small = x .small; records = irep-inside (drop at f) at f (drop-part at) to e; strings = x .strings; names = x .names; fileNames = x .fileNames; files = x .files }))
+      record { small = x .small; records = irep-inside (drop at f) at f (drop-part at) allowed to e; strings = x .strings; names = x .names; fileNames = x .fileNames; files = x .files }))
       (λ _. either (Good (Inside f)) (isMark f at mark.lvar) _ _
       (λ _. afterIrep-good (Inside f) c _ (λ rs. once-good (Inside f) c (c .lvar) _ (λ to e.
       let l = lvar-inside (drop at f) at f (drop-part at) rs to e in
@@ -385,33 +387,37 @@ module _ (f : List ℕ) where
       (λ _. either (Good (Inside f)) (isMark f at mark.end) _ _ (λ _ to e. x) (λ _ to e. x))))
 
 -- Of a file that nothing refuses, all that was read is inside.
-pub reading-inside : (f : List ℕ) (to : ℕ) → fileReading f .end ≡ ok to → Inside f (fileReading f .it)
-reading-inside f to e = reading-keeps f (Inside f) (section-inside f) (nothing-inside f (reading-accepted f to e .small)) to e
+pub reading-inside : (f : List ℕ) (a : Allowance) (to : ℕ) → fileReading f a .end ≡ ok to → Inside f (fileReading f a .it)
+reading-inside f a to e = reading-keeps f a (Inside f) (section-inside f (a .records)) (nothing-inside f (reading-accepted f a to e .small)) to e
 
 -- so each record is; and the file is small
-pub records-inside : (f : List ℕ) (to : ℕ) → fileReading f .end ≡ ok to → (i : ℕ) (d : Rec) → i < length (recordsOf (fileReading f .it))
-    → RecInside f (getD (recordsOf (fileReading f .it)) i d)
-records-inside f to e = reading-inside f to e .records
+pub records-inside : (f : List ℕ) (a : Allowance) (to : ℕ) → fileReading f a .end ≡ ok to → (i : ℕ) (d : Rec) → i < length (recordsOf (fileReading f a .it))
+    → RecInside f (getD (recordsOf (fileReading f a .it)) i d)
+records-inside f a to e = reading-inside f a to e .records
 
-pub small : (f : List ℕ) (to : ℕ) → fileReading f .end ≡ ok to → length f ≤ 65536
-small f to e = reading-accepted f to e .small
+pub small : (f : List ℕ) (a : Allowance) (to : ℕ) → fileReading f a .end ≡ ok to → length f ≤ 65536
+small f a to e = reading-accepted f a to e .small
 
--- A load that is not refused is a reading that nothing refuses, and whose rows fit the tables.
-pub loading-reading : (f : List ℕ) (m : Nine) (c : Content) → loading f m ≡ ok c
-    → (fileReading f .it ≡ c) × ((to : ℕ) × fileReading f .end ≡ ok to) × T (fits 1024 m (used (tablesOf c)))
-unfolding loading ending
-loading-reading f m c e = go (fileReading f) (fits 1024 m (used (tablesOf (fileReading f .it)))) refl (fileReading f .end) refl e
+-- A load that is not refused is a reading that nothing refuses, and whose rows fit the tables, whatever the records are held against.
+pub within-reading : (most : ℕ) (a : Allowance) (f : List ℕ) (m : Nine) (c : Content) → loadingWithin most a f m ≡ ok c
+    → (fileReading f a .it ≡ c) × ((to : ℕ) × fileReading f a .end ≡ ok to) × T (fits most m (used (tablesOf c)))
+unfolding loadingWithin ending
+within-reading most a f m c e = let p = fileReading f a in go p (fits most m (used (tablesOf (p .it)))) refl (p .end) refl e
   where
-    go : (p : Part Content) (b : Bool) → fits 1024 m (used (tablesOf (p .it))) ≡ b → (a : Answer ℕ) → p .end ≡ a
+    go : (p : Part Content) (b : Bool) → fits most m (used (tablesOf (p .it))) ≡ b → (a : Answer ℕ) → p .end ≡ a
         → cond b (onAnswer a (λ _. ok (p .it)) refused) (refused 14) ≡ ok c
-        → (p .it ≡ c) × ((to : ℕ) × p .end ≡ ok to) × T (fits 1024 m (used (tablesOf c)))
+        → (p .it ≡ c) × ((to : ℕ) × p .end ≡ ok to) × T (fits most m (used (tablesOf c)))
     go p false q a r e = absurd (ok-refused e)
     go p true q (refused k) r e = absurd (ok-refused e)
     go p true q (ok to) r e = let z : p .it ≡ c = cc in (z, (to, r), rw (← z, q) tt)
 
+pub loading-reading : (f : List ℕ) (m : Nine) (a : Allowance) (c : Content) → loading f m a ≡ ok c
+    → (fileReading f (granted a) .it ≡ c) × ((to : ℕ) × fileReading f (granted a) .end ≡ ok to) × T (fits 1024 m (used (tablesOf c)))
+loading-reading f m a c e = within-reading 1024 (granted a) f m c e
+
 -- so all that a load reads is inside
-pub loading-inside : (f : List ℕ) (m : Nine) (c : Content) → loading f m ≡ ok c → Inside f c
-loading-inside f m c e = let r = loading-reading f m c e in rw (r .0) at (reading-inside f (r .1 .0) (r .1 .1))
+pub loading-inside : (f : List ℕ) (m : Nine) (a : Allowance) (c : Content) → loading f m a ≡ ok c → Inside f c
+loading-inside f m a c e = let r = loading-reading f m a c e in rw (r .0) at (reading-inside f (granted a) (r .1 .0) (r .1 .1))
 
 -- every row that was read has a row of the lent tables
 pub record Held (m : Nine) (c : Content) : Type 0 where
@@ -426,10 +432,10 @@ pub record Held (m : Nine) (c : Content) : Type 0 where
   pub files : length (tablesOf c .files) ≤ m .files / 4
   pub lines : length (tablesOf c .lines) ≤ m .lines / 2
 
-pub loading-held : (f : List ℕ) (m : Nine) (c : Content) → loading f m ≡ ok c → Held m c
+pub loading-held : (f : List ℕ) (m : Nine) (a : Allowance) (c : Content) → loading f m a ≡ ok c → Held m c
 unfolding fits
-loading-held f m c e =
-    let t = loading-reading f m c e .2 in
+loading-held f m a c e =
+    let t = loading-reading f m a c e .2 in
     let named : length (tablesOf c .names) ≤ m .names = leb→le _ _ (search both depth 12) in
     record {
       few = leb→le _ _ (search both depth 12);

@@ -10,6 +10,7 @@ use Rattle.format.specs.Bytes.{ok}
 use Rattle.format.specs.Rows.{RecordRow, recordWidth, recordWords, handlerWords, lineWords}
 use Rattle.format.specs.Irep.{headAt, body, Rec}
 use Rattle.format.specs.Debug.{File}
+use Rattle.format.specs.Allowance.{Allowance}
 use Rattle.format.specs.File.{Content}
 use Rattle.format.specs.Load.{Nine, recordsOf, namesOf, filesOf, tablesOf, wordsOf, loading}
 use Rattle.format.specs.Line.{rowsFrom, lineRowAt}
@@ -102,9 +103,9 @@ pub record RowInside (f recs hs ls : List ℕ) (r : ℕ) : Type 0 where
   pub handling : (recordWord recs r 7 + recordWord recs r 8) * 4 ≤ length hs
   pub lined : (recordWord recs r 17 + recordWord recs r 18) * 2 ≤ length ls
 
-pub row-inside : (f : List ℕ) (m : Nine) (c : Content) → loading f m ≡ ok c → (i : ℕ) → i < length (recordsOf c)
+pub row-inside : (f : List ℕ) (m : Nine) (a : Allowance) (c : Content) → loading f m a ≡ ok c → (i : ℕ) → i < length (recordsOf c)
     → RowInside f (wordsOf m (tablesOf c) .records) (wordsOf m (tablesOf c) .handlers) (wordsOf m (tablesOf c) .lines) i
-row-inside f m c loaded i h =
+row-inside f m a c loaded i h =
     let g : i < length (tablesOf c .records) = rw records-length h in
     let none = recordRowAt [] 0 in
     said (getD (tablesOf c .records) i none) (λ k q. table-row recordWords recordWidth (λ _. refl) (m .records) (tablesOf c .records) i k none g q) (owns c i h d none)
@@ -113,7 +114,7 @@ row-inside f m c loaded i h =
     d = record { head = headAt [] 0; place = 0; body = body [] [] [] }
 
     room : Held m c
-    room = loading-held f m c loaded
+    room = loading-held f m a c loaded
 
     said : (R : RecordRow) → ((k : ℕ) → k < recordWidth → recordWord (wordsOf m (tablesOf c) .records) i k ≡ getD (recordWords R) k 0)
         → Owns (tablesOf c) R (getD (recordsOf c) i d) (getD (namesOf c) i []) (getD (filesOf c) i [])
@@ -123,7 +124,7 @@ row-inside f m c loaded i h =
           inside =
               let n = records-length c in
               rw (table-length recordWords recordWidth (λ _. refl) (omega arith) (m .records) (tablesOf c .records) (room .records)) (omega (arith, room .records));
-          bytes = rw (e 5 (omega arith), e 6 (omega arith), o .ilen, o .place) (loading-inside f m c loaded .records i d h .bytes);
+          bytes = rw (e 5 (omega arith), e 6 (omega arith), o .ilen, o .place) (loading-inside f m a c loaded .records i d h .bytes);
           handling =
               rw (e 7 (omega arith), e 8 (omega arith), table-length handlerWords 4 (λ _. refl) (omega arith) (m .handlers) (tablesOf c .handlers) (room .handlers))
               (omega (arith, room .handlers, o .handlers .inside));

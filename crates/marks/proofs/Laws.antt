@@ -10,6 +10,7 @@ use lib.ListN.{length}
 use borrow.Author.Tests.{leb-true, leb-false, le-leb}
 use Rattle.format.specs.Bytes.{refuse, first, has, twoAt, fourAt, twoAre, fourAre, u32At}
 use Rattle.format.specs.Headers.{fileHeader, riteIdent, major04}
+use Rattle.format.specs.Allowance.{desktop}
 use Rattle.format.specs.File.{identIsRite, statedSize, majorIs04, fileRefusal}
 use Rattle.headers.specs.declared.RiteBinaryHeader.{RiteBinaryHeader}
 use Rattle.headers.specs.declared.RiteBinaryHeaderRead.{RiteBinaryHeaderRead}
@@ -46,13 +47,13 @@ module _ (f : List ℕ) (r : RiteBinaryHeaderRead) (e : r ≡ riteBinaryHeaderOf
           absurd (omega arith)
 
   -- the tests behind 2, by what is made of ident, size and major
-  pub tests : length f ≤ 65536 → r .refusal ≡ 0 → (rite : Bool) → rite ≡ fourAre (r .header .ident) 0 riteIdent
+  pub tests : (allowed : ℕ) → length f ≤ desktop .bytes → length f ≤ allowed → r .refusal ≡ 0 → (rite : Bool) → rite ≡ fourAre (r .header .ident) 0 riteIdent
       → (stated : ℕ) → stated ≡ u32At (r .header .size) 0 → (supported : Bool) → supported ≡ twoAre (r .header .«major_version») 0 major04
-      → fileRefusal f ≡ first (refuse 27 rite) (first (refuse 28 (leb stated (length f))) (first (refuse 3 supported) (refuse 4 (leb 32 (length f)))))
+      → fileRefusal f allowed ≡ first (refuse 27 rite) (first (refuse 28 (leb stated (length f))) (first (refuse 3 supported) (refuse 4 (leb 32 (length f)))))
   unfolding fileRefusal
-  tests small z rite i stated s supported v =
+  tests allowed small within z rite i stated s supported v =
       let t = file-there z in
       let i : rite ≡ identIsRite f = i ∙ ap (λ (l : List ℕ). fourAre l 0 riteIdent) (t .ident) in
       let s : stated ≡ statedSize f = s ∙ ap (λ (l : List ℕ). u32At l 0) (t .size) in
       let v : supported ≡ majorIs04 f = v ∙ ap (λ (l : List ℕ). twoAre l 0 major04) (t .major) in
-      rw (le-leb (length f) 65536 small, le-leb 20 (length f) (t .long), ← i, ← s, ← v)
+      rw (le-leb (length f) (desktop .bytes) small, le-leb (length f) allowed within, le-leb 20 (length f) (t .long), ← i, ← s, ← v)

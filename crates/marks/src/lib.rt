@@ -1,6 +1,7 @@
 // What is tested of a file without tables: its size and header, the mark of a section, the size of END.
 use binfmt::Field32;
 use binfmt::be32_to_u32;
+use format::DESKTOP_BYTES;
 use headers::RiteBinaryHeader;
 use headers::section_size;
 ghost use mathlib.Core.Path.{_≡_};
@@ -91,12 +92,15 @@ fn is_04(major: [u8; 2]) -> bool
     major[1] == b'4'
 }
 
-// The refusal of a file by its size and its header, 0 for none.
-pub fn file_refusal(f: &[u8]) -> u8
-    ensures { λ r. ⌜ r ≡ fileRefusal (now (f .entry)) ⌝ }
+// The refusal of a file by its size and its header, 0 for none, where so many bytes are allowed.
+pub fn file_refusal(f: &[u8], allowed: usize) -> u8
+    ensures { λ r. ⌜ r ≡ fileRefusal (now (f .entry)) allowed ⌝ }
 {
-    if 65536 < f.len() {
+    if (DESKTOP_BYTES as usize) < f.len() {
         return 1;
+    }
+    if allowed < f.len() {
+        return 29;
     }
     let h = RiteBinaryHeader::from_bytes(f);
     if h.refusal != 0 {

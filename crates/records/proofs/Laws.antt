@@ -8,6 +8,7 @@ use lib.ListN.{getD, replicate, length-replicate, getD-replicate}
 use lib.Seq.{ext-getD}
 use Rattle.format.specs.Bytes.{ok, refused}
 use Rattle.format.specs.Rows.{recordWords, tableOf}
+use Rattle.format.specs.Allowance.{Allowance}
 use Rattle.format.specs.File.{Content}
 use Rattle.format.specs.Load.{Nine, tablesOf, loading, load}
 use Rattle.format.specs.Lookup.{recordRowAt}
@@ -25,14 +26,14 @@ zero-rows m n =
     rowsFrom-at (rowAt (replicate m 0)) 0 n j zeroRow k ∙ zero-row m (0 + j) ∙ sym (getD-replicate n j zeroRow zeroRow k))
 
 -- After a refusal every row is zeros.
-pub refused-rows : (f : List ℕ) (m : Nine) (e n : ℕ) → loading f m ≡ refused e → rowsOf (load f m .tables .records) n ≡ replicate n zeroRow
+pub refused-rows : (f : List ℕ) (m : Nine) (a : Allowance) (e n : ℕ) → loading f m a ≡ refused e → rowsOf (load f m a .tables .records) n ≡ replicate n zeroRow
 unfolding load
-refused-rows f m e n r = rw (r, sub-zero) (zero-rows (m .records) n)
+refused-rows f m a e n r = rw (r, sub-zero) (zero-rows (m .records) n)
 
 -- After a load that is not refused row i is that of record i of what was read, and zeros past the last record.
-pub loaded-rows : (f : List ℕ) (m : Nine) (c : Content) → loading f m ≡ ok c → (n i : ℕ) → i < n
-    → getD (rowsOf (load f m .tables .records) n) i zeroRow ≡ structOf (getD (tablesOf c .records) i (recordRowAt [] 0))
+pub loaded-rows : (f : List ℕ) (m : Nine) (a : Allowance) (c : Content) → loading f m a ≡ ok c → (n i : ℕ) → i < n
+    → getD (rowsOf (load f m a .tables .records) n) i zeroRow ≡ structOf (getD (tablesOf c .records) i (recordRowAt [] 0))
 unfolding load
-loaded-rows f m c e n i h =
+loaded-rows f m a c e n i h =
     let t = tableOf recordWords (m .records) (tablesOf c .records) in
-    rw e (rowsFrom-at (rowAt t) 0 n i zeroRow h ∙ rw zero-add (table-rows (m .records) (tablesOf c .records) (loading-held f m c e .records) i))
+    rw e (rowsFrom-at (rowAt t) 0 n i zeroRow h ∙ rw zero-add (table-rows (m .records) (tablesOf c .records) (loading-held f m a c e .records) i))

@@ -1,8 +1,13 @@
--- What a load answers, case by case, and the lengths of nine tables.
+-- What a load answers, case by case, the lengths of nine tables, and what a caller allows.
 -- Assumes nothing.
 use lib.ListN.{length}
+use Prim.Native.Nat.{ℕ}
+use mathlib.Core.List.{List}
 use Rattle.format.specs.Bytes.{Answer, ok, refused}
+use Rattle.format.specs.Allowance.{Allowance, allowance}
 use Rattle.format.specs.Load as format
+use Rattle.irep.specs.declared.Limits.{Limits}
+use Rattle.rite.specs.declared.Allowance.{Allowance as Given}
 use Rattle.sections.specs.declared.Used.{Used}
 use Rattle.file.specs.declared.Loaded.{Loaded}
 use Rattle.file.specs.declared.Loaded.the-variants as loaded
@@ -40,3 +45,14 @@ answerOf (loaded.Refused e) = refused e
 
 abbrev pub loadedOf : Loaded → format.Words → format.Loaded
 loadedOf r t = record { answer = answerOf r; tables = t }
+
+-- the allowance that a caller gives, and that of the inner loader's limits
+abbrev pub allowanceOf : Given → Allowance
+allowanceOf a = allowance (a .bytes) (a .records)
+
+abbrev pub allowedBy : Limits → Allowance
+allowedBy l = allowance (l .bytes) (l .allowed)
+
+-- what the inner loader answers, and what the tables hold afterwards
+abbrev pub loadWithin : Limits → List ℕ → format.Nine → format.Loaded
+loadWithin l f m = format.laid m (format.loadingWithin (l .most) (allowedBy l) f m)

@@ -9,6 +9,7 @@ use Rattle.format.specs.Bytes.{onAnswer}
 use Rattle.format.specs.File.{endSection}
 use Rattle.format.specs.Rows.{recordWidth}
 use Rattle.rows.specs.Table.{rowCount}
+use Rattle.irep.specs.declared.Limits.{Limits}
 use Rattle.irep.specs.declared.Used.{Used as IrepUsed}
 use Rattle.irep.specs.declared.Section.{Section as IrepAnswer}
 use Rattle.irep.specs.declared.Section.the-variants as irep-is
@@ -108,7 +109,7 @@ abbrev pub irepNext : Progress → IrepAnswer → Section
 irepNext p (irep-is.Next size u) = section.Next size (withIrep p u)
 irepNext p (irep-is.Refused e) = section.Refused e
 
-unfoldable pub irepOutOf : List ℕ → ℕ → ℕ → List ℕ → List ℕ → List ℕ → List ℕ → Progress → IrepOut
+unfoldable pub irepOutOf : List ℕ → ℕ → Limits → List ℕ → List ℕ → List ℕ → List ℕ → Progress → IrepOut
 irepOutOf f at limit rs hs ps ss p =
     cond (p .irep) (irepOut (section.Refused 6) rs hs ps ss)
     (let o = irepOf (drop at f) at limit (lent rs hs ps ss) in

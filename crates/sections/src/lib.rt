@@ -135,7 +135,7 @@ fn with_dbg(p: Progress, filenames: u32, files: u32, lines: u32) -> Progress
 pub fn irep_at(
     f: &[u8],
     at: usize,
-    limit: u32,
+    limit: irep::Limits,
     records: &mut [u32],
     handlers: &mut [u32],
     pool: &mut [u32],

@@ -3,7 +3,7 @@
 use mathlib.Core.Path.{ap, _∙_}
 use Rattle.format.specs.Load.{laid}
 use Rattle.format.specs.Exam as format
-use Rattle.rite.specs.Answers.{words, sizes}
+use Rattle.rite.specs.Answers.{words, sizes, allowanceOf}
 use Rattle.examine.proofs.Passing.{examining-is}
 use borrow.Author.Needs.{needs}
 use Rattle.examine.proofs.examine.Statement.{statement}
@@ -16,12 +16,14 @@ returns c =
     let c38 = c18 .before .before .before .before .before .before .before .before .before .before .before .before .before .before .before .before .before .before .before .before in
     let a = c38 .args in
     let lent = words (a .records .now) (a .handlers .now) (a .pool .now) (a .symbols .now) (a .strings .now) (a .names .now) (a .filenames .now) (a .files .now) (a .lines .now) in
-    c18 .load-passing .ensures ∙ ap (laid (sizes lent)) (examining-is (a .f .now) (sizes lent))
+    let allow = allowanceOf (a .a) in
+    c18 .load-passing .ensures ∙ ap (laid (sizes lent)) (examining-is (a .f .now) (sizes lent) allow)
 
 pub examine-spec : {M : Type 1} → statement M
 examine-spec =
     tie.close
     (tie.spec
+    (λ c. search needs)
     (λ c κs. search needs)
     (λ c. search needs)
     (λ c. search needs)

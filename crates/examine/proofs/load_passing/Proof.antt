@@ -4,7 +4,7 @@ use mathlib.Core.Path.{ap, _∙_}
 use native.Mathlib.Omega.{arith}
 use Rattle.format.specs.File.{nothing}
 use Rattle.format.specs.Load.{tablesOf, wordsOf}
-use Rattle.rite.specs.Answers.{words, sizes}
+use Rattle.rite.specs.Answers.{words, sizes, allowanceOf}
 use Rattle.rite.proofs.Whole.{zero-words, same-sizes}
 use Rattle.examine.proofs.Passing.{given, fits-given, went, stopped, load-stopped}
 use borrow.Author.Needs.{needs}
@@ -19,10 +19,11 @@ refusal-requires c κs =
     let a = c44 .args in
     let last = c24 .load .last in
     let lent = words (a .records .now) (a .handlers .now) (a .pool .now) (a .symbols .now) (a .strings .now) (a .names .now) (a .filenames .now) (a .files .now) (a .lines .now) in
+    let allow = allowanceOf (a .a) in
     let left =
     words (last .1 .0) (last .1 .1 .0) (last .1 .1 .1 .0) (last .1 .1 .1 .1 .0) (last .1 .1 .1 .1 .1 .0) (last .1 .1 .1 .1 .1 .1 .0) (last .1 .1 .1 .1 .1 .1 .1 .0)
     (last .1 .1 .1 .1 .1 .1 .1 .1 .0) (last .1 .1 .1 .1 .1 .1 .1 .1 .1 .0) in
-    fits-given (a .f .now) (sizes lent) left (c4 .u .given .0 .0) (given (a .f .now) (sizes lent) left (c4 .u .given .0 .0) (c24 .load .result) (c24 .load .ensures) (c4 .u .given .1))
+    fits-given (a .f .now) (sizes lent) allow left (c4 .u .given .0 .0) (given (a .f .now) (sizes lent) allow left (c4 .u .given .0 .0) (c24 .load .result) (c24 .load .ensures) (c4 .u .given .1))
 
 returns : tie.Need-returns
 returns c =
@@ -32,11 +33,12 @@ returns c =
     let a = c46 .args in
     let last = c26 .load .last in
     let lent = words (a .records .now) (a .handlers .now) (a .pool .now) (a .symbols .now) (a .strings .now) (a .names .now) (a .filenames .now) (a .files .now) (a .lines .now) in
+    let allow = allowanceOf (a .a) in
     let left =
     words (last .1 .0) (last .1 .1 .0) (last .1 .1 .1 .0) (last .1 .1 .1 .1 .0) (last .1 .1 .1 .1 .1 .0) (last .1 .1 .1 .1 .1 .1 .0) (last .1 .1 .1 .1 .1 .1 .1 .0)
     (last .1 .1 .1 .1 .1 .1 .1 .1 .0) (last .1 .1 .1 .1 .1 .1 .1 .1 .1 .0) in
-    went (a .f .now) (sizes lent) left (c6 .u .given .0 .0)
-    (given (a .f .now) (sizes lent) left (c6 .u .given .0 .0) (c26 .load .result) (c26 .load .ensures) (c6 .u .given .1)) (a .rows) (c .before .refusal .result)
+    went (a .f .now) (sizes lent) allow left (c6 .u .given .0 .0)
+    (given (a .f .now) (sizes lent) allow left (c6 .u .given .0 .0) (c26 .load .result) (c26 .load .ensures) (c6 .u .given .1)) (a .rows) (c .before .refusal .result)
     (c .before .refusal .ensures) (omega arith)
 
 same-length-10 : tie.Need-same-length-10
@@ -114,11 +116,12 @@ returns-2 c =
     let last = c54 .load .last in
     let last2 = c18 .clear-all .last in
     let lent = words (a .records .now) (a .handlers .now) (a .pool .now) (a .symbols .now) (a .strings .now) (a .names .now) (a .filenames .now) (a .files .now) (a .lines .now) in
+    let allow = allowanceOf (a .a) in
     let left =
     words (last .1 .0) (last .1 .1 .0) (last .1 .1 .1 .0) (last .1 .1 .1 .1 .0) (last .1 .1 .1 .1 .1 .0) (last .1 .1 .1 .1 .1 .1 .0) (last .1 .1 .1 .1 .1 .1 .1 .0)
     (last .1 .1 .1 .1 .1 .1 .1 .1 .0) (last .1 .1 .1 .1 .1 .1 .1 .1 .1 .0) in
-    stopped (a .f .now) (sizes lent) left (c34 .u .given .0 .0)
-    (given (a .f .now) (sizes lent) left (c34 .u .given .0 .0) (c54 .load .result) (c54 .load .ensures) (c34 .u .given .1)) (a .rows) (c29 .refusal .result)
+    stopped (a .f .now) (sizes lent) allow left (c34 .u .given .0 .0)
+    (given (a .f .now) (sizes lent) allow left (c34 .u .given .0 .0) (c54 .load .result) (c54 .load .ensures) (c34 .u .given .1)) (a .rows) (c29 .refusal .result)
     (c29 .refusal .ensures) (λ x. omega (arith, x, c28 .if1 .left))
     (words (last2 .0) (last2 .1 .0) (last2 .1 .1 .0) (last2 .1 .1 .1 .0) (last2 .1 .1 .1 .1 .0) (last2 .1 .1 .1 .1 .1 .0) (last2 .1 .1 .1 .1 .1 .1 .0)
     (last2 .1 .1 .1 .1 .1 .1 .1 .0) (last2 .1 .1 .1 .1 .1 .1 .1 .1 .0))
@@ -145,9 +148,10 @@ returns-3 c =
     let c21 = c20 .before in
     let c41 = c21 .before .before .before .before .before .before .before .before .before .before .before .before .before .before .before .before .before .before .before .before in
     let a = c41 .args in
+    let lent = words (a .records .now) (a .handlers .now) (a .pool .now) (a .symbols .now) (a .strings .now) (a .names .now) (a .filenames .now) (a .files .now) (a .lines .now) in
+    let allow = allowanceOf (a .a) in
     let last = c21 .load .last in
-    load-stopped (a .f .now) (sizes (words (a .records .now) (a .handlers .now) (a .pool .now) (a .symbols .now) (a .strings .now) (a .names .now) (a .filenames .now)
-    (a .files .now) (a .lines .now))) (words (last .1 .0) (last .1 .1 .0) (last .1 .1 .1 .0) (last .1 .1 .1 .1 .0) (last .1 .1 .1 .1 .1 .0) (last .1 .1 .1 .1 .1 .1 .0)
+    load-stopped (a .f .now) (sizes lent) allow (words (last .1 .0) (last .1 .1 .0) (last .1 .1 .1 .0) (last .1 .1 .1 .1 .0) (last .1 .1 .1 .1 .1 .0) (last .1 .1 .1 .1 .1 .1 .0)
     (last .1 .1 .1 .1 .1 .1 .1 .0) (last .1 .1 .1 .1 .1 .1 .1 .1 .0) (last .1 .1 .1 .1 .1 .1 .1 .1 .1 .0)) (c .before .e .given .0 .0) (a .rows) (c21 .load .result)
     (c21 .load .ensures) (c .before .e .given .1)
 

@@ -4,7 +4,7 @@ use mathlib.Core.Path.{sym, ap, _∙_}
 use lib.ListN.{length}
 use Rattle.format.specs.File.{nothing}
 use Rattle.format.specs.Load.{tablesOf, wordsOf}
-use Rattle.rite.specs.Answers.{words, sizes}
+use Rattle.rite.specs.Answers.{words, sizes, allowanceOf}
 use Rattle.rite.proofs.Whole.{zero-words, same-sizes}
 use Rattle.run.specs.Answers.{followedOf}
 use Rattle.run.specs.Follow.{out}
@@ -31,12 +31,13 @@ follow-tables-requires c κs =
     let a = c48 .args in
     let last = c26 .load-passing .last in
     let lent = words (a .records .now) (a .handlers .now) (a .pool .now) (a .symbols .now) (a .strings .now) (a .names .now) (a .filenames .now) (a .files .now) (a .lines .now) in
+    let allow = allowanceOf (a .a) in
     let left =
     words (last .1 .0) (last .1 .1 .0) (last .1 .1 .1 .0) (last .1 .1 .1 .1 .0) (last .1 .1 .1 .1 .1 .0) (last .1 .1 .1 .1 .1 .1 .0) (last .1 .1 .1 .1 .1 .1 .1 .0)
     (last .1 .1 .1 .1 .1 .1 .1 .1 .0) (last .1 .1 .1 .1 .1 .1 .1 .1 .1 .0) in (
-      ready (a .f .now) (sizes lent) left (c6 .u .given .0 .0) (length (a .frames .now)) (c26 .load-passing .result) (c26 .load-passing .ensures) (c6 .u .given .1),
+      ready (a .f .now) (sizes lent) allow left (c6 .u .given .0 .0) (length (a .frames .now)) (c26 .load-passing .result) (c26 .load-passing .ensures) (c6 .u .given .1),
       room
-          (a .f .now) (sizes lent) left (c6 .u .given .0 .0) (length (a .frames .now)) (c26 .load-passing .result) (c26 .load-passing .ensures) (c6 .u .given .1),
+          (a .f .now) (sizes lent) allow left (c6 .u .given .0 .0) (length (a .frames .now)) (c26 .load-passing .result) (c26 .load-passing .ensures) (c6 .u .given .1),
     )
 
 enum-told : tie.Need-enum-told
@@ -122,9 +123,10 @@ returns c =
     let c51 = c31 .before .before .before .before .before .before .before .before .before .before .before .before .before .before .before .before .before .before .before .before in
     let c53 = c51 .before .before in
     let a = c53 .args in
+    let lent = words (a .records .now) (a .handlers .now) (a .pool .now) (a .symbols .now) (a .strings .now) (a .names .now) (a .filenames .now) (a .files .now) (a .lines .now) in
+    let allow = allowanceOf (a .a) in
     let last = c31 .load-passing .last in
-    stands (a .f .now) (sizes (words (a .records .now) (a .handlers .now) (a .pool .now) (a .symbols .now) (a .strings .now) (a .names .now) (a .filenames .now)
-    (a .files .now) (a .lines .now))) (words (last .1 .0) (last .1 .1 .0) (last .1 .1 .1 .0) (last .1 .1 .1 .1 .0) (last .1 .1 .1 .1 .1 .0) (last .1 .1 .1 .1 .1 .1 .0)
+    stands (a .f .now) (sizes lent) allow (words (last .1 .0) (last .1 .1 .0) (last .1 .1 .1 .0) (last .1 .1 .1 .1 .0) (last .1 .1 .1 .1 .1 .0) (last .1 .1 .1 .1 .1 .1 .0)
     (last .1 .1 .1 .1 .1 .1 .1 .0) (last .1 .1 .1 .1 .1 .1 .1 .1 .0) (last .1 .1 .1 .1 .1 .1 .1 .1 .1 .0)) (c11 .u .given .0 .0) (length (a .frames .now))
     (c31 .load-passing .result) (c31 .load-passing .ensures) (c11 .u .given .1) (a .choices .now) (c4 .follow-tables .last .1 .1 .1 .1 .1 .1 .0) _
     (ap (λ x. out (followedOf x) (c4 .follow-tables .last .1 .1 .1 .1 .1 .1 .0)) (sym (c .enum-told .given .1)) ∙ c4 .follow-tables .ensures)
@@ -194,9 +196,10 @@ returns-2 c =
     let c52 = c32 .before .before .before .before .before .before .before .before .before .before .before .before .before .before .before .before .before .before .before .before in
     let c54 = c52 .before .before in
     let a = c54 .args in
+    let lent = words (a .records .now) (a .handlers .now) (a .pool .now) (a .symbols .now) (a .strings .now) (a .names .now) (a .filenames .now) (a .files .now) (a .lines .now) in
+    let allow = allowanceOf (a .a) in
     let last = c32 .load-passing .last in
-    stands (a .f .now) (sizes (words (a .records .now) (a .handlers .now) (a .pool .now) (a .symbols .now) (a .strings .now) (a .names .now) (a .filenames .now)
-    (a .files .now) (a .lines .now))) (words (last .1 .0) (last .1 .1 .0) (last .1 .1 .1 .0) (last .1 .1 .1 .1 .0) (last .1 .1 .1 .1 .1 .0) (last .1 .1 .1 .1 .1 .1 .0)
+    stands (a .f .now) (sizes lent) allow (words (last .1 .0) (last .1 .1 .0) (last .1 .1 .1 .0) (last .1 .1 .1 .1 .0) (last .1 .1 .1 .1 .1 .0) (last .1 .1 .1 .1 .1 .1 .0)
     (last .1 .1 .1 .1 .1 .1 .1 .0) (last .1 .1 .1 .1 .1 .1 .1 .1 .0) (last .1 .1 .1 .1 .1 .1 .1 .1 .1 .0)) (c12 .u .given .0 .0) (length (a .frames .now))
     (c32 .load-passing .result) (c32 .load-passing .ensures) (c12 .u .given .1) (a .choices .now) (c5 .follow-tables .last .1 .1 .1 .1 .1 .1 .0) _
     (ap (λ x. out (followedOf x) (c5 .follow-tables .last .1 .1 .1 .1 .1 .1 .0)) (sym (c .before .«record» .given .1)) ∙ c5 .follow-tables .ensures)
@@ -289,10 +292,11 @@ returns-3 c =
     let last = c60 .load-passing .last in
     let last2 = c18 .clear-all .last in
     let lent = words (a .records .now) (a .handlers .now) (a .pool .now) (a .symbols .now) (a .strings .now) (a .names .now) (a .filenames .now) (a .files .now) (a .lines .now) in
+    let allow = allowanceOf (a .a) in
     let left =
     words (last .1 .0) (last .1 .1 .0) (last .1 .1 .1 .0) (last .1 .1 .1 .1 .0) (last .1 .1 .1 .1 .1 .0) (last .1 .1 .1 .1 .1 .1 .0) (last .1 .1 .1 .1 .1 .1 .1 .0)
     (last .1 .1 .1 .1 .1 .1 .1 .1 .0) (last .1 .1 .1 .1 .1 .1 .1 .1 .1 .0) in
-    refuses (a .f .now) (sizes lent) left (c40 .u .given .0 .0) (length (a .frames .now)) (c60 .load-passing .result) (c60 .load-passing .ensures) (c40 .u .given .1)
+    refuses (a .f .now) (sizes lent) allow left (c40 .u .given .0 .0) (length (a .frames .now)) (c60 .load-passing .result) (c60 .load-passing .ensures) (c40 .u .given .1)
     (a .choices .now) (c33 .follow-tables .last .1 .1 .1 .1 .1 .1 .0) (c29 .e .given .0 .0)
     (ap (λ x. out (followedOf x) (c33 .follow-tables .last .1 .1 .1 .1 .1 .1 .0)) (sym (c29 .e .given .1)) ∙ c33 .follow-tables .ensures)
     (words (last2 .0) (last2 .1 .0) (last2 .1 .1 .0) (last2 .1 .1 .1 .0) (last2 .1 .1 .1 .1 .0) (last2 .1 .1 .1 .1 .1 .0) (last2 .1 .1 .1 .1 .1 .1 .0)
@@ -352,9 +356,10 @@ returns-4 c =
     let c45 = c25 .before .before .before .before .before .before .before .before .before .before .before .before .before .before .before .before .before .before .before .before in
     let c47 = c45 .before .before in
     let a = c47 .args in
+    let lent = words (a .records .now) (a .handlers .now) (a .pool .now) (a .symbols .now) (a .strings .now) (a .names .now) (a .filenames .now) (a .files .now) (a .lines .now) in
+    let allow = allowanceOf (a .a) in
     let last = c25 .load-passing .last in
-    stopped (a .f .now) (sizes (words (a .records .now) (a .handlers .now) (a .pool .now) (a .symbols .now) (a .strings .now) (a .names .now) (a .filenames .now)
-    (a .files .now) (a .lines .now))) (words (last .1 .0) (last .1 .1 .0) (last .1 .1 .1 .0) (last .1 .1 .1 .1 .0) (last .1 .1 .1 .1 .1 .0) (last .1 .1 .1 .1 .1 .1 .0)
+    stopped (a .f .now) (sizes lent) allow (words (last .1 .0) (last .1 .1 .0) (last .1 .1 .1 .0) (last .1 .1 .1 .1 .0) (last .1 .1 .1 .1 .1 .0) (last .1 .1 .1 .1 .1 .1 .0)
     (last .1 .1 .1 .1 .1 .1 .1 .0) (last .1 .1 .1 .1 .1 .1 .1 .1 .0) (last .1 .1 .1 .1 .1 .1 .1 .1 .1 .0)) (c5 .e2 .given .0 .0) (length (a .frames .now))
     (a .choices .now) (c25 .load-passing .result) (c25 .load-passing .ensures) (c5 .e2 .given .1) (c2 .clear .last .0) (c2 .clear .ensures)
 
