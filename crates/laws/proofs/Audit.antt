@@ -15,6 +15,7 @@ use Rattle.format.specs.Rows.{Range, RecordRow, recordWords, HandlerRow, handle
 use Rattle.format.specs.Rows.{nameWords, FileRow, fileWords, lineWords, tableOf, recordWidth}
 use Rattle.format.specs.Irep.{Rec}
 use Rattle.format.specs.Debug.{File}
+use Rattle.format.specs.Allowance.{Allowance}
 use Rattle.format.specs.File.{Content}
 use Rattle.format.specs.Load.{Nine, Words, recordsOf, stringsOf, namesOf, fileNamesOf, filesOf, mapOfFiles, fileRows, tablesOf, wordsOf, loading, load}
 use Rattle.format.specs.Line.{lineAt, rowsFrom, lineRowAt}
@@ -34,9 +35,9 @@ abbrev pub held : Nine → Content → Words
 held m c = wordsOf m (tablesOf c)
 
 -- which are those that load leaves
-pub loaded-tables : (f : List ℕ) (m : Nine) (c : Content) → loading f m ≡ ok c → load f m .tables ≡ held m c
+pub loaded-tables : (f : List ℕ) (m : Nine) (a : Allowance) (c : Content) → loading f m a ≡ ok c → load f m a .tables ≡ held m c
 unfolding load
-loaded-tables f m c e = rw e
+loaded-tables f m a c e = rw e
 
 -- two tests that pass, and a second that does not
 passes : {A : Type 0} (a b : Bool) (x y : A) → a ≡ true → b ≡ true → cond (a && b) x y ≡ x
@@ -136,12 +137,12 @@ pub record NoRecord (f : List ℕ) (w : Words) (i : ℕ) : Type 0 where
   pub debugFile : (j : ℕ) → debugFile f (w .records) (w .fileNames) (w .files) (w .lines) i j ≡ refused 22
   pub line : (p : ℕ) → line (w .records) (w .lines) i p ≡ refused 22
 
-module _ (f : List ℕ) (m : Nine) (c : Content) (loaded : loading f m ≡ ok c) where
+module _ (f : List ℕ) (m : Nine) (a : Allowance) (c : Content) (loaded : loading f m a ≡ ok c) where
   every : Inside f c
-  every = loading-inside f m c loaded
+  every = loading-inside f m a c loaded
 
   room : Held m c
-  room = loading-held f m c loaded
+  room = loading-held f m a c loaded
 
   rows-count : length (tablesOf c .records) ≡ length (recordsOf c)
   rows-count = records-length c

@@ -14,6 +14,7 @@ use Rattle.format.specs.Bytes.{ok, refused, has, u32At}
 use Rattle.format.specs.Reading.{Read}
 use Rattle.format.specs.Irep.{Rec, recordsFrom, irepSection}
 use Rattle.format.specs.Debug.{FileHead, fileLines}
+use Rattle.format.specs.Allowance.{Allowance}
 use Rattle.format.specs.File.{fileReading}
 use Rattle.format.proofs.Answers.{ok-refused, either, Holds}
 use Rattle.layout.proofs.Ends.{bind-ok}
@@ -21,26 +22,26 @@ use Rattle.laws.proofs.Numbers.{Among, readingNumbers}
 use Rattle.laws.proofs.Endings.{Ends, Left, records-end, map-ends, reading-ends}
 
 -- "Sections follow until fewer than 4 bytes are left; those are ignored."
-pub sections-end : (f : List ℕ) (to : ℕ) → fileReading f .end ≡ ok to → length f < to + 4
-sections-end f to e = subst (Holds (Left f) (Among readingNumbers)) e (reading-ends f)
+pub sections-end : (f : List ℕ) (a : Allowance) (to : ℕ) → fileReading f a .end ≡ ok to → length f < to + 4
+sections-end f a to e = subst (Holds (Left f) (Among readingNumbers)) e (reading-ends f a)
 
 -- "its records, which follow until the place reaches the section size": the place behind the last record
-pub record Reached (f : List ℕ) (base : ℕ) : Type 0 where
+pub record Reached (f : List ℕ) (base allowed : ℕ) : Type 0 where
   pub place : ℕ
-  pub read : recordsFrom f base (u32At f 4) (length f) 12 .end ≡ ok place
+  pub read : recordsFrom f base (u32At f 4) (length f) allowed 12 .end ≡ ok place
   pub reaches : u32At f 4 ≤ place
 
-pub records-end-at-size : (f : List ℕ) (base size : ℕ) → irepSection f base .end ≡ ok size → Reached f base
+pub records-end-at-size : (f : List ℕ) (base allowed size : ℕ) → irepSection f base allowed .end ≡ ok size → Reached f base allowed
 unfolding irepSection
-records-end-at-size f base size =
-    let P : Read Rec → Type 0 = λ x. x .end ≡ ok size → Reached f base in
+records-end-at-size f base allowed size =
+    let P : Read Rec → Type 0 = λ x. x .end ≡ ok size → Reached f base allowed in
     let n = u32At f 4 in
     either P (has f 0 12) _ _
     (λ _. either P (leb n (length f)) _ _
     (λ t e.
     let h = leb-true n (length f) t in
-    let x = bind-ok (recordsFrom f base n (length f) 12 .end) (λ _. cond (eqb n 0) (refused 8) (ok n)) size e in
-    record { place = x .0; read = x .1; reaches = subst (Ends (λ to. n ≤ to)) (x .1) (records-end f base n (length f) 12 (omega arith)) })
+    let x = bind-ok (recordsFrom f base n (length f) allowed 12 .end) (λ _. cond (eqb n 0) (refused 8) (ok n)) size e in
+    record { place = x .0; read = x .1; reaches = subst (Ends (λ to. n ≤ to)) (x .1) (records-end f base n (length f) allowed 12 (omega arith)) })
     (λ _ e. absurd (ok-refused e)))
     (λ _ e. absurd (ok-refused e))
 

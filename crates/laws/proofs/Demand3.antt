@@ -1,4 +1,4 @@
--- Demand 3, for every file that passes and every list of choices.
+-- Demand 3, for every file that passes under an allowance and every list of choices.
 -- Assumes nothing.
 use Prim.Native.Nat.{ℕ, suc, _+_, _*_, _/_, _≤_, _<_}
 use native.Mathlib.Nat.{le-refl}
@@ -14,6 +14,7 @@ use Rattle.format.specs.Bytes.{Answer, ok, refused}
 use Rattle.format.specs.Irep.{Rec}
 use Rattle.format.specs.Lvar.{Lvar}
 use Rattle.format.specs.Debug.{File}
+use Rattle.format.specs.Allowance.{Allowance, granted}
 use Rattle.format.specs.File.{Content}
 use Rattle.format.specs.Load.{Nine, recordsOf, namesOf, filesOf, loading}
 use Rattle.format.specs.Tree.{Whole}
@@ -67,41 +68,41 @@ refused-21 bs none-are = go (choices bs) refl (choices-21 bs kind)
     go (ok cs) e h = absurd (none-are cs e)
     go (refused k) e h = e ∙ ap refused h
 
-module _ (f : List ℕ) (c : Content) (e0 : examinePattern (patternOf f c) ≡ 0) (m : Nine) (n : ℕ) (bs : List ℕ)
-    (l : loading f m ≡ ok c) (h : length (recordsOf c) ≤ n / 2) where
+module _ (f : List ℕ) (c : Content) (e0 : examinePattern (patternOf f c) ≡ 0) (m : Nine) (a : Allowance) (n : ℕ) (bs : List ℕ)
+    (l : loading f m a ≡ ok c) (h : length (recordsOf c) ≤ n / 2) where
   passed : passing f c ≡ ok c
   unfolding passing
   passed = rw e0
 
   follow-ok : (cs : List Choice) → choices bs ≡ ok cs
-      → following f m n bs ≡ ok (record { content = c; frames = run (patternOf f c) cs })
+      → following f m a n bs ≡ ok (record { content = c; frames = run (patternOf f c) cs })
   unfolding following
   follow-ok cs e = rw (l, le-leb (length (recordsOf c)) (n / 2) h, passed, e)
 
-  follow-21 : choices bs ≡ refused 21 → following f m n bs ≡ refused 21
+  follow-21 : choices bs ≡ refused 21 → following f m a n bs ≡ refused 21
   unfolding following
   follow-21 e = rw (l, le-leb (length (recordsOf c)) (n / 2) h, passed, e)
 
-  answer-is : (cs : List Choice) → choices bs ≡ ok cs → follow f m n bs .answer ≡ ok (standing (patternOf f c) (run (patternOf f c) cs))
+  answer-is : (cs : List Choice) → choices bs ≡ ok cs → follow f m a n bs .answer ≡ ok (standing (patternOf f c) (run (patternOf f c) cs))
   unfolding follow
   answer-is cs e = let q = follow-ok cs e in rw q
 
-  frames-are : (cs : List Choice) → choices bs ≡ ok cs → follow f m n bs .frames ≡ frameTable n (run (patternOf f c) cs)
+  frames-are : (cs : List Choice) → choices bs ≡ ok cs → follow f m a n bs .frames ≡ frameTable n (run (patternOf f c) cs)
   unfolding follow
   frames-are cs e = let q = follow-ok cs e in rw q
 
-  pub follow-holds : (cs : List Choice) → choices bs ≡ ok cs → FollowHolds f c (run (patternOf f c) cs) m n bs
+  pub follow-holds : (cs : List Choice) → choices bs ≡ ok cs → FollowHolds f c (run (patternOf f c) cs) m a n bs
   follow-holds cs e =
       let p = patternOf f c in
       let G = good-file p e0 in
-      let a = answer-is cs e in
+      let is = answer-is cs e in
       record {
-        done = (λ k. done-iff p G (run p cs) .0 (ok-same (sym a ∙ k)), λ k. a ∙ ap ok (done-iff p G (run p cs) .1 k));
-        top = λ g gs k. a ∙ ap ok (top-is p G g gs (run p cs) (run-stack p G cs) k);
+        done = (λ k. done-iff p G (run p cs) .0 (ok-same (sym is ∙ k)), λ k. is ∙ ap ok (done-iff p G (run p cs) .1 k));
+        top = λ g gs k. is ∙ ap ok (top-is p G g gs (run p cs) (run-stack p G cs) k);
         table = frames-are cs e;
       }
 
-  pub others-21 : ((ds : List Choice) → ¬ (choices bs ≡ ok ds)) → (follow f m n bs .answer ≡ refused 21) × (follow f m n bs .frames ≡ frameTable n [])
+  pub others-21 : ((ds : List Choice) → ¬ (choices bs ≡ ok ds)) → (follow f m a n bs .answer ≡ refused 21) × (follow f m a n bs .frames ≡ frameTable n [])
   unfolding follow
   others-21 none-are = let q = follow-21 (refused-21 bs none-are) in rw q (refl, refl)
 
@@ -110,17 +111,17 @@ abbrev AllNamed : Content → Type 0
 AllNamed c = (l : Lvar) → c .lvar ≡ some l → Whole (walk.rlens (recordsOf c)) → (i : ℕ) (r : Rec) → i < length (recordsOf c)
     → walk.Named (getD (recordsOf c) i r) (getD (namesOf c) i [])
 
-names-of : (f : List ℕ) (c : Content) (m : Nine) → loading f m ≡ ok c → Whole (rlens (patternOf f c))
+names-of : (f : List ℕ) (c : Content) (m : Nine) (a : Allowance) → loading f m a ≡ ok c → Whole (rlens (patternOf f c))
     → (l : Lvar) → c .lvar ≡ some l → (i : ℕ) (r : Rec) → i < length (recordsOf c)
     → suc (length (getD (l .names) i [])) ≡ getD (recordsOf c) i r .head .nlocals
-names-of f c m q w l e i r h =
-    let x = loading-reading f m c q in
-    let all : AllNamed c = subst AllNamed (x .0) (walk.file-names f (x .1 .0) (x .1 .1)) in
+names-of f c m a q w l e i r h =
+    let x = loading-reading f m a c q in
+    let all : AllNamed c = subst AllNamed (x .0) (walk.file-names f (granted a) (x .1 .0) (x .1 .1)) in
     let named = all l e (rw (pattern-rlens f (recordsOf c) (filesOf c)) at w) i r h in
     rw e at named
 
-module _ (f : List ℕ) (x : FilePasses f) where
-  pub demand3 : (cs : List Choice) → Claim f (x .content) cs
+module _ (f : List ℕ) (a : Allowance) (x : FilePasses f a) where
+  pub demand3 : (cs : List Choice) → Claim f a (x .content) cs
   demand3 cs =
       let c = x .content in
       let p = patternOf f c in
@@ -132,20 +133,20 @@ module _ (f : List ℕ) (x : FilePasses f) where
         frames = stack-frames p G (run p cs) (length p) (le-refl (length p)) s;
         falls = stack-falls p G (run p cs) (length p) s;
         few = omega (arith, stack-few p G (run p cs) (length p) s, n);
-        names = names-of f c (x .tables) (x .loads) (whole-iff (rlens p) .0 (G .tree));
-        follows = λ m n bs l h e. follow-holds f c e0 m n bs l h cs e;
-        others = λ m n bs l h no-list. others-21 f c e0 m n bs l h no-list;
+        names = names-of f c (x .tables) a (x .loads) (whole-iff (rlens p) .0 (G .tree));
+        follows = λ m n bs l h e. follow-holds f c e0 m a n bs l h cs e;
+        others = λ m n bs l h no-list. others-21 f c e0 m a n bs l h no-list;
       }
 
--- what was read of a file is the same in all tables in which it loads
-pub loads-same : (f : List ℕ) (m m′ : Nine) (c c′ : Content) → loading f m ≡ ok c → loading f m′ ≡ ok c′ → c ≡ c′
-loads-same f m m′ c c′ e e′ = sym (loading-reading f m c e .0) ∙ loading-reading f m′ c′ e′ .0
+-- what was read of a file is the same in all tables in which it loads under an allowance
+pub loads-same : (f : List ℕ) (m m′ : Nine) (a : Allowance) (c c′ : Content) → loading f m a ≡ ok c → loading f m′ a ≡ ok c′ → c ≡ c′
+loads-same f m m′ a c c′ e e′ = sym (loading-reading f m a c e .0) ∙ loading-reading f m′ a c′ e′ .0
 
 -- so the whole claim is about what any tables hold in which a file that passes loads
-module _ (f : List ℕ) (x : FilePasses f) (m : Nine) (c : Content) (e : loading f m ≡ ok c) (cs : List Choice) where
-  pub claim-anywhere : Claim f c cs
-  claim-anywhere = subst (λ (d : Content). Claim f d cs) (loads-same f (x .tables) m (x .content) c (x .loads) e) (demand3 f x cs)
+module _ (f : List ℕ) (a : Allowance) (x : FilePasses f a) (m : Nine) (c : Content) (e : loading f m a ≡ ok c) (cs : List Choice) where
+  pub claim-anywhere : Claim f a c cs
+  claim-anywhere = subst (λ (d : Content). Claim f a d cs) (loads-same f (x .tables) m a (x .content) c (x .loads) e) (demand3 f a x cs)
 
   -- and what it says of follow is about a call over any of them
-  pub follow-anywhere : (n : ℕ) (bs : List ℕ) → length (recordsOf c) ≤ n / 2 → choices bs ≡ ok cs → FollowHolds f c (run (patternOf f c) cs) m n bs
+  pub follow-anywhere : (n : ℕ) (bs : List ℕ) → length (recordsOf c) ≤ n / 2 → choices bs ≡ ok cs → FollowHolds f c (run (patternOf f c) cs) m a n bs
   follow-anywhere n bs h q = claim-anywhere .follows m n bs e h q

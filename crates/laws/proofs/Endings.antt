@@ -18,6 +18,7 @@ use Rattle.format.specs.Walk.{walk}
 use Rattle.format.specs.Lvar.{plainText, nameEntry, recordNames, Lvar, lvarSection}
 use Rattle.format.specs.Packed.{packedFrom, packed, packedEntry, keeps}
 use Rattle.format.specs.Debug.{above, fileHead, mapEntry, after, goesOn, mapLines, fileLines, filesFrom, debugRecord, Debug, debugContent, debugSection}
+use Rattle.format.specs.Allowance.{Allowance}
 use Rattle.format.specs.File.{Content, nothing, content, isMark, endSection, once, afterIrep, sectionAt, sections, fileRefusal, fileReading}
 use Rattle.format.proofs.Answers.{either, Holds, weaker, answered, tested, chained}
 use Rattle.format.proofs.Pool.{value-cases}
@@ -119,35 +120,39 @@ module _ (f : List ℕ) where
       (andThen-ends _ _ (h .end) pool (inTurn-low (handler f) handler-low clen at) (λ next _. counted-low (poolEntry f base) (entry-low base) next))
       (λ next _. counted-low (symbolText f base) (symbol-low base) next)
 
-  record-behind : (base at : ℕ) → Behind at (recordAt f base at .end)
+  record-behind : (base allowed at : ℕ) → Behind at (recordAt f base allowed at .end)
   unfolding recordAt
-  record-behind base at =
+  record-behind base allowed at =
       let h = headAt f at in
       let body = at + 16 + h .ilen in
-      either (λ (x : Part Rec). Behind at (x .end)) (has f (at + 16) (h .ilen)) _ _
+      let P : Part Rec → Type 0 = λ x. Behind at (x .end) in
+      either P (eqb allowed 0) _ _ (λ _. tt)
+      (λ _. either P (has f (at + 16) (h .ilen)) _ _
       (λ _. chained _ _ _ (bodyAt f base (h .clen) body .end) _ (body-low base (h .clen) body) (λ _ _. not-empty _ (h .size) _ (λ k. omega arith)))
-      (λ _. tt)
+      (λ _. tt))
 
   -- "records, which follow until the place reaches the section size"
-  pub records-end : (base size n at : ℕ) → size ≤ at + n → Ends (λ to. size ≤ to) (recordsFrom f base size n at .end)
+  pub records-end : (base size n allowed at : ℕ) → size ≤ at + n → Ends (λ to. size ≤ to) (recordsFrom f base size n allowed at .end)
   unfolding recordsFrom
-  records-end base size zero at h = omega arith
-  records-end base size (suc n) at h =
+  records-end base size zero allowed at h = omega arith
+  records-end base size (suc n) allowed at h =
       let P : Read Rec → Type 0 = λ x. Ends (λ to. size ≤ to) (x .end) in
       either P (leb size at) _ _ (λ e. leb-true size at e)
       (λ _. either P (has f at 16) _ _
-      (λ _. andThen-ends _ _ (recordAt f base at .end) (recordsFrom f base size n) (record-behind base at) (λ next b. records-end base size n next (omega arith)))
+      (λ _. andThen-ends _ _ (recordAt f base allowed at .end) (recordsFrom f base size n (allowed - 1)) (record-behind base allowed at)
+      (λ next b. records-end base size n (allowed - 1) next (omega arith)))
       (λ _. tt))
 
-  irep-sized : (base : ℕ) → Sized (irepSection f base .end)
+  irep-sized : (base allowed : ℕ) → Sized (irepSection f base allowed .end)
   unfolding irepSection
-  irep-sized base =
+  irep-sized base allowed =
       let P : Read Rec → Type 0 = λ x. Sized (x .end) in
       let size = u32At f 4 in
       either P (has f 0 12) _ _
       (λ _. either P (leb size (length f)) _ _
       (λ e. let h = leb-true size (length f) e in
-      chained _ _ _ (recordsFrom f base size (length f) 12 .end) _ (records-end base size (length f) 12 (omega arith)) (λ _ _. not-empty _ size _ (λ k. k)))
+      chained _ _ _ (recordsFrom f base size (length f) allowed 12 .end) _ (records-end base size (length f) allowed 12 (omega arith))
+      (λ _ _. not-empty _ size _ (λ k. k)))
       (λ _. tt))
       (λ _. tt)
 
@@ -287,12 +292,12 @@ after-sized none l d k h = tt
 after-sized (some rs) l d k h = h rs
 
 module _ (f : List ℕ) where
-  section-sized : (c : Content) (at : ℕ) → Sized (sectionAt f c at .end)
+  section-sized : (allowed : ℕ) (c : Content) (at : ℕ) → Sized (sectionAt f allowed c at .end)
   unfolding sectionAt
-  section-sized c at =
+  section-sized allowed c at =
       let P : Part Content → Type 0 = λ x. Sized (x .end) in
       let s = drop at f in
-      either P (isMark f at mark.irep) _ _ (λ _. once-sized (c .irep) c _ (irep-sized s at))
+      either P (isMark f at mark.irep) _ _ (λ _. once-sized (c .irep) c _ (irep-sized s at allowed))
       (λ _. either P (isMark f at mark.lvar) _ _
       (λ _. after-sized (c .irep) (c .lvar) (c .dbg) _ (λ rs. once-sized (c .lvar) c _ (lvar-sized s at rs)))
       (λ _. either P (isMark f at mark.dbg) _ _
@@ -303,20 +308,22 @@ module _ (f : List ℕ) where
   abbrev pub Left : ℕ → Type 0
   Left to = length f < to + 4
 
-  pub sections-end : (n : ℕ) (c : Content) (at : ℕ) → length f ≤ at + n → Ends Left (sections f n c at .end)
+  pub sections-end : (allowed n : ℕ) (c : Content) (at : ℕ) → length f ≤ at + n → Ends Left (sections f allowed n c at .end)
   unfolding sections
-  sections-end zero c at h = omega arith
-  sections-end (suc n) c at h =
+  sections-end allowed zero c at h = omega arith
+  sections-end allowed (suc n) c at h =
       let P : Part Content → Type 0 = λ x. Ends Left (x .end) in
-      let s = sectionAt f c at in
+      let s = sectionAt f allowed c at in
       either P (has f at 4) _ _
-      (λ _. answered _ _ P (s .end) _ _ (section-sized c at) (λ size k. sections-end n (s .it) (at + size) (omega arith)) (λ _ r. r))
+      (λ _. answered _ _ P (s .end) _ _ (section-sized allowed c at) (λ size k. sections-end allowed n (s .it) (at + size) (omega arith)) (λ _ r. r))
       (λ e. let k = leb-false 4 (length f - at) e in omega arith)
 
-  pub reading-ends : Holds Left (Among readingNumbers) (fileReading f .end)
+  pub reading-ends : (a : Allowance) → Holds Left (Among readingNumbers) (fileReading f a .end)
   unfolding fileReading
-  reading-ends =
+  reading-ends a =
       let P : Part Content → Type 0 = λ x. Holds Left (Among readingNumbers) (x .end) in
-      either P (eqb (fileRefusal f) 0) _ _
-      (λ _. weaker _ _ _ (sections f (length f) nothing 20 .end) (sections-end (length f) nothing 20 (omega arith)) (further sectionNumbers readingNumbers tt))
-      (λ z. further testNumbers readingNumbers tt (fileRefusal f) (tests-among f (eqb-false (fileRefusal f) 0 z)))
+      let n = fileRefusal f (a .bytes) in
+      let p = sections f (a .records) (length f) nothing 20 in
+      either P (eqb n 0) _ _
+      (λ _. weaker _ _ _ (p .end) (sections-end (a .records) (length f) nothing 20 (omega arith)) (further sectionNumbers readingNumbers tt))
+      (λ z. further testNumbers readingNumbers tt n (tests-among f (a .bytes) (eqb-false n 0 z)))

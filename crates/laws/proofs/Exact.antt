@@ -12,6 +12,7 @@ use lib.Dec.{T-not, eqb}
 use lib.ListN.{length, getD}
 use borrow.Author.Tests.{ne-eqb}
 use Rattle.format.specs.Bytes.{Answer, ok, refused, refuse, first}
+use Rattle.format.specs.Allowance.{Allowance}
 use Rattle.format.specs.File.{Content}
 use Rattle.format.specs.Load.{Nine, Counts, counts, loading}
 use Rattle.format.specs.Tree.{Whole, whole}
@@ -22,9 +23,9 @@ use Rattle.runs.proofs.Tree.{whole-iff}
 use Rattle.runs.proofs.Refusal.{passes-iff, refusal-met}
 
 -- a file that is not loaded is refused by the load's number
-pub load-refused : (f : List ℕ) (m : Nine) (n : ℕ) → loading f m ≡ refused n → examine f m .answer ≡ refused n
+pub load-refused : (f : List ℕ) (m : Nine) (a : Allowance) (n : ℕ) → loading f m a ≡ refused n → examine f m a .answer ≡ refused n
 unfolding examine examining
-load-refused f m n e = rw e
+load-refused f m a n e = rw e
 
 -- The first in order: 15 before all others; else the first record that has one, and in it the first of 16 and 25 over the whole record, 17 and 18 by
 -- instruction, 19, 20.
@@ -95,19 +96,19 @@ in-order p n e = go (which (refuse 15 (whole (rlens p))) (examineAll p) n e)
         byRecord (whole-iff (rlens p) .0 (refuse-zero 14 (whole (rlens p)) z)) (w .i) (w .inside) (w .before) (in-record (recAt p (w .i)) n (w .there))
 
 -- of a file that loads
-module _ (f : List ℕ) (m : Nine) (c : Content) (l : loading f m ≡ ok c) where
+module _ (f : List ℕ) (m : Nine) (a : Allowance) (c : Content) (l : loading f m a ≡ ok c) where
   abbrev given : ℕ → Answer Counts
   given zero = ok (counts c)
   given (suc k) = refused (suc k)
 
   -- the answer, by the number of the pattern's examination
-  answer-is : (k : ℕ) → examinePattern (patternOf f c) ≡ k → examine f m .answer ≡ given k
+  answer-is : (k : ℕ) → examinePattern (patternOf f c) ≡ k → examine f m a .answer ≡ given k
   unfolding examine examining passing
   answer-is zero e = rw (l, e)
   answer-is (suc k) e = let q : eqb (suc k) 0 ≡ false = ne-eqb (suc k) 0 (λ (x : suc k ≡ 0). omega arith) in rw (l, e, q)
 
   -- a number is that of a condition that is met
-  pub refused-meets : (n : ℕ) → examine f m .answer ≡ refused n → Meets (patternOf f c) n
+  pub refused-meets : (n : ℕ) → examine f m a .answer ≡ refused n → Meets (patternOf f c) n
   refused-meets n e = go (examinePattern (patternOf f c)) refl
     where
       go : (k : ℕ) → examinePattern (patternOf f c) ≡ k → Meets (patternOf f c) n
@@ -115,7 +116,7 @@ module _ (f : List ℕ) (m : Nine) (c : Content) (l : loading f m ≡ ok c) wher
       go (suc k) q = subst (λ x. Meets (patternOf f c) x) (refused-same (sym (answer-is (suc k) q) ∙ e)) (refusal-met (patternOf f c) k q)
 
   -- and the first in order
-  pub refused-first : (n : ℕ) → examine f m .answer ≡ refused n → InOrder (patternOf f c) n
+  pub refused-first : (n : ℕ) → examine f m a .answer ≡ refused n → InOrder (patternOf f c) n
   refused-first n e = go (examinePattern (patternOf f c)) refl
     where
       go : (k : ℕ) → examinePattern (patternOf f c) ≡ k → InOrder (patternOf f c) n
@@ -123,9 +124,9 @@ module _ (f : List ℕ) (m : Nine) (c : Content) (l : loading f m ≡ ok c) wher
       go (suc k) q = subst (λ x. InOrder (patternOf f c) x) (refused-same (sym (answer-is (suc k) q) ∙ e)) (in-order (patternOf f c) k q)
 
   -- it passes exactly where none of 15 to 20 and 25 is met, and answers the rows used
-  pub passes-exactly : (examine f m .answer ≡ ok (counts c)) ↔ Passes (patternOf f c)
+  pub passes-exactly : (examine f m a .answer ≡ ok (counts c)) ↔ Passes (patternOf f c)
   passes-exactly = (λ e. passes-iff (patternOf f c) .0 (go e (examinePattern (patternOf f c)) refl), λ p. answer-is 0 (passes-iff (patternOf f c) .1 p))
     where
-      go : examine f m .answer ≡ ok (counts c) → (k : ℕ) → examinePattern (patternOf f c) ≡ k → examinePattern (patternOf f c) ≡ 0
+      go : examine f m a .answer ≡ ok (counts c) → (k : ℕ) → examinePattern (patternOf f c) ≡ k → examinePattern (patternOf f c) ≡ 0
       go e zero q = q
       go e (suc k) q = absurd (ok-refused (sym (answer-is (suc k) q) ∙ e))

@@ -1,5 +1,5 @@
--- Demand 1: a load refuses only by 1 to 14, 27 and 28, an examination by 1 to 20, 25, 27 and 28, follow by 1 to 21, 25, 27 and 28, a lookup by 22 alone and
--- fetch by 23 and 24 alone, so no refusal is 0; and after a refusal every lent table is zero throughout.
+-- Demand 1, under every allowance: a load refuses only by 1 to 14 and 27 to 29, an examination by 1 to 20, 25 and 27 to 29, follow by 1 to 21, 25 and 27
+-- to 29, a lookup by 22 alone and fetch by 23 and 24 alone, so no refusal is 0; and after a refusal every lent table is zero throughout.
 -- Assumes nothing.
 use Prim.Native.Nat.{ℕ, zero, suc, _+_, _/_}
 use native.Mathlib.Nat.{sub-zero}
@@ -13,8 +13,9 @@ use lib.ListN.{length, replicate}
 use borrow.Author.Tests.{ne-eqb}
 use Rattle.format.specs.Bytes.{Answer, ok, refused, bind, has, byte}
 use Rattle.format.specs.Rows.{Range, RecordRow, PoolRow, TextRow, textRow, recordWidth}
+use Rattle.format.specs.Allowance.{Allowance, granted}
 use Rattle.format.specs.File.{Content, nothing, fileReading}
-use Rattle.format.specs.Load.{Nine, Words, tablesOf, used, fits, ending, loading, wordsOf, laid, load, recordsOf}
+use Rattle.format.specs.Load.{Nine, Words, tablesOf, used, fits, ending, loadingWithin, loading, wordsOf, laid, load, recordsOf}
 use Rattle.format.specs.Insn.{kind, known, row, width, fetchAs, fetch}
 use Rattle.format.specs.Lookup as look
 use Rattle.format.specs.Pattern.{Pattern, patternOf}
@@ -72,12 +73,12 @@ meets-among p n (meets20 x) = tt
 meets-among p n (meets25 x) = tt
 
 module _ (f : List ℕ) where
-  loading-refuses : (m : Nine) → Refuses (Among loadNumbers) (loading f m)
-  unfolding loading ending
-  loading-refuses m =
-      let p = fileReading f in
+  loading-refuses : (m : Nine) (a : Allowance) → Refuses (Among loadNumbers) (loading f m a)
+  unfolding loadingWithin ending
+  loading-refuses m a =
+      let p = fileReading f (granted a) in
       tested _ _ (fits 1024 m (used (tablesOf (p .it)))) _ 14 tt
-      (λ _. answered _ _ (Refuses (Among loadNumbers)) (p .end) _ _ (reading-ends f) (λ _ _. tt) (further readingNumbers loadNumbers tt))
+      (λ _. answered _ _ (Refuses (Among loadNumbers)) (p .end) _ _ (reading-ends f (granted a)) (λ _ _. tt) (further readingNumbers loadNumbers tt))
 
   passing-refuses : (c : Content) → Refuses (Among conditionNumbers) (passing f c)
   unfolding passing
@@ -89,61 +90,61 @@ module _ (f : List ℕ) where
           let q : eqb (suc k) 0 ≡ false = ne-eqb (suc k) 0 (λ (x : suc k ≡ 0). omega arith) in
           rw q (meets-among (patternOf f c) (suc k) (refusal-met (patternOf f c) k e))
 
-  module _ (m : Nine) where
-    examining-refuses : Refuses (Among examineNumbers) (examining f m)
+  module _ (m : Nine) (a : Allowance) where
+    examining-refuses : Refuses (Among examineNumbers) (examining f m a)
     unfolding examining
     examining-refuses =
-        chained _ _ _ (loading f m) (passing f) (weaker _ _ _ (loading f m) (loading-refuses m) (further loadNumbers examineNumbers tt))
+        chained _ _ _ (loading f m a) (passing f) (weaker _ _ _ (loading f m a) (loading-refuses m a) (further loadNumbers examineNumbers tt))
         (λ c _. weaker _ _ _ (passing f c) (passing-refuses c) (further conditionNumbers examineNumbers tt))
 
-    following-refuses : (n : ℕ) (bs : List ℕ) → Refuses (Among followNumbers) (following f m n bs)
+    following-refuses : (n : ℕ) (bs : List ℕ) → Refuses (Among followNumbers) (following f m a n bs)
     unfolding following
     following-refuses n bs =
-        chained _ _ _ (loading f m) _ (weaker _ _ _ (loading f m) (loading-refuses m) (further loadNumbers followNumbers tt)) (λ c _.
+        chained _ _ _ (loading f m a) _ (weaker _ _ _ (loading f m a) (loading-refuses m a) (further loadNumbers followNumbers tt)) (λ c _.
         tested _ _ (leb (length (recordsOf c)) (n / 2)) _ 14 tt (λ _.
         chained _ _ _ (passing f c) _ (weaker _ _ _ (passing f c) (passing-refuses c) (further conditionNumbers followNumbers tt)) (λ _ _.
         chained _ _ _ (choices bs) _ (weaker _ _ _ (choices bs) (choices-21 bs due-kind) (λ e x. rw x tt)) (λ cs _. tt))))
 
     -- a load
-    pub load-number : (e : ℕ) → load f m .answer ≡ refused e → Among loadNumbers e
+    pub load-number : (e : ℕ) → load f m a .answer ≡ refused e → Among loadNumbers e
     unfolding load
-    load-number e q = subst (Refuses (Among loadNumbers)) q (laid-refuses m (Among loadNumbers) (loading f m) (loading-refuses m))
+    load-number e q = subst (Refuses (Among loadNumbers)) q (laid-refuses m (Among loadNumbers) (loading f m a) (loading-refuses m a))
 
-    pub load-not-zero : NotZero (load f m .answer)
+    pub load-not-zero : NotZero (load f m a .answer)
     load-not-zero e q = above-zero loadNumbers refl e (load-number e q)
 
-    pub load-zero : (e : ℕ) → load f m .answer ≡ refused e → Zero m (load f m .tables)
+    pub load-zero : (e : ℕ) → load f m a .answer ≡ refused e → Zero m (load f m a .tables)
     unfolding load
-    load-zero e q = laid-zero m e (loading f m) q
+    load-zero e q = laid-zero m e (loading f m a) q
 
     -- an examination
-    pub examine-number : (e : ℕ) → examine f m .answer ≡ refused e → Among examineNumbers e
+    pub examine-number : (e : ℕ) → examine f m a .answer ≡ refused e → Among examineNumbers e
     unfolding examine
-    examine-number e q = subst (Refuses (Among examineNumbers)) q (laid-refuses m (Among examineNumbers) (examining f m) examining-refuses)
+    examine-number e q = subst (Refuses (Among examineNumbers)) q (laid-refuses m (Among examineNumbers) (examining f m a) examining-refuses)
 
-    pub examine-not-zero : NotZero (examine f m .answer)
+    pub examine-not-zero : NotZero (examine f m a .answer)
     examine-not-zero e q = above-zero examineNumbers refl e (examine-number e q)
 
-    pub examine-zero : (e : ℕ) → examine f m .answer ≡ refused e → Zero m (examine f m .tables)
+    pub examine-zero : (e : ℕ) → examine f m a .answer ≡ refused e → Zero m (examine f m a .tables)
     unfolding examine
-    examine-zero e q = laid-zero m e (examining f m) q
+    examine-zero e q = laid-zero m e (examining f m a) q
 
     -- follow
-    pub follow-number : (n : ℕ) (bs : List ℕ) (e : ℕ) → follow f m n bs .answer ≡ refused e → Among followNumbers e
+    pub follow-number : (n : ℕ) (bs : List ℕ) (e : ℕ) → follow f m a n bs .answer ≡ refused e → Among followNumbers e
     unfolding follow
     follow-number n bs e q =
         let R : ℕ → Type 0 = Among followNumbers in
         subst (Refuses R) q
-        (answered _ _ (λ (x : Followed). Refuses R (x .answer)) (following f m n bs) _ _ (following-refuses n bs) (λ _ _. tt) (λ _ r. r))
+        (answered _ _ (λ (x : Followed). Refuses R (x .answer)) (following f m a n bs) _ _ (following-refuses n bs) (λ _ _. tt) (λ _ r. r))
 
-    pub follow-not-zero : (n : ℕ) (bs : List ℕ) → NotZero (follow f m n bs .answer)
+    pub follow-not-zero : (n : ℕ) (bs : List ℕ) → NotZero (follow f m a n bs .answer)
     follow-not-zero n bs e q = above-zero followNumbers refl e (follow-number n bs e q)
 
-    pub follow-zero : (n : ℕ) (bs : List ℕ) (e : ℕ) → follow f m n bs .answer ≡ refused e
-        → Zero m (follow f m n bs .tables) × (follow f m n bs .frames ≡ replicate n 0)
+    pub follow-zero : (n : ℕ) (bs : List ℕ) (e : ℕ) → follow f m a n bs .answer ≡ refused e
+        → Zero m (follow f m a n bs .tables) × (follow f m a n bs .frames ≡ replicate n 0)
     unfolding follow frameTable laidFrames
     follow-zero n bs e =
-        answered (λ _. Unit {0}) _ (λ (x : Followed). x .answer ≡ refused e → Zero m (x .tables) × (x .frames ≡ replicate n 0)) (following f m n bs) _ _
+        answered (λ _. Unit {0}) _ (λ (x : Followed). x .answer ≡ refused e → Zero m (x .tables) × (x .frames ≡ replicate n 0)) (following f m a n bs) _ _
         (following-refuses n bs) (λ _ _ q. absurd (ok-refused (sym q))) (λ _ _ _. (zero-words m, rw sub-zero))
 
 -- a lookup's one number

@@ -1,5 +1,6 @@
 -- Paper 01's starred samples, as one table of the definitions, with some that it does not star, those of ident and size as paper 02's g) has them,
--- constants as its d) reads them, parents as its a) has them, newer opcodes as its c) and prefixes as its b) do; and sample A as a file that passes.
+-- constants as its d) reads them, parents as its a) has them, newer opcodes as its c) and prefixes as its b) do, all under the desktop's allowance, and
+-- those of other allowances as its h) has them; and sample A as a file that passes.
 -- Assumes nothing.
 use Prim.Native.Nat.{ℕ, _*_, _/_, _%_}
 use mathlib.Core.Path.{_≡_, refl}
@@ -16,8 +17,9 @@ use Rattle.format.specs.Walk.{walk, visits}
 use Rattle.format.specs.Lvar.{plainText, nameEntry, recordNames, lvarSection}
 use Rattle.format.specs.Packed.{packedFrom, packed, packedEntry}
 use Rattle.format.specs.Debug.{fileHead, mapEntry, mapLines, filesFrom, debugRecord, debugContent, debugSection}
+use Rattle.format.specs.Allowance.{allowance, desktop, preview}
 use Rattle.format.specs.File.{endSection, sectionAt, sections, fileRefusal, fileReading}
-use Rattle.format.specs.Load.{Nine, Counts, fits, ending, loading, load}
+use Rattle.format.specs.Load.{Nine, Counts, fits, ending, loadingWithin, loading, load}
 use Rattle.format.specs.Registers.{comments, form}
 use Rattle.format.specs.Line.{halve, lineAt, rising}
 use Rattle.format.specs.Lookup.{recordWord, recordIn, rowIn, bytesIn, Constant, text, int, constantAt, constantOf, pool}
@@ -75,7 +77,7 @@ unvisited n = record { rows = n; visits = 0 }
 
 -- constant j of D, over the tables that its load leaves
 constantD : ℕ → Answer Constant
-constantD j = let t = load fileD (lentPool recordWidth 6) .tables in pool fileD (t .records) (t .pool) 0 j
+constantD j = let t = load fileD (lentPool recordWidth 6) desktop .tables in pool fileD (t .records) (t .pool) 0 j
 
 -- the bytes of "a\0b" with its length before it and its zero behind it
 zeroInside : List ℕ
@@ -112,44 +114,68 @@ visited n k = record { rows = lent n; visits = k }
 
 -- Paper 02, a): depth and parent of record i, once a file is loaded
 nodeIn : List ℕ → ℕ → List ℕ
-nodeIn f i = let t = load f twoRows .tables .records in recordWord t i 19 ∷ recordWord t i 20 ∷ []
+nodeIn f i = let t = load f twoRows desktop .tables .records in recordWord t i 19 ∷ recordWord t i 20 ∷ []
 
 record Table : Type 0 where
-  a-loads : load fileA twoRows .answer ≡ ok (unvisited (lent 1))
-  a-row : load fileA twoRows .tables .records ≡ 24 ∷ 1 ∷ 2 ∷ 0 ∷ 0 ∷ 4 ∷ 48 ∷ (replicate 13 0 ++ noParent ∷ replicate recordWidth 0)
-  a-three-zeros : load (fileA ++ replicate 3 0) twoRows .answer ≡ ok (unvisited (lent 1))
-  a-four-zeros : load (fileA ++ replicate 4 0) twoRows .answer ≡ refused 5
-  end-loads : load (endAlone 31 12) twoRows .answer ≡ ok (unvisited (lent 0))
-  end-no-tree : examine (endAlone 31 12) twoRows .answer ≡ refused 15
-  end-of-size-0 : load (endAlone 31 0) twoRows .answer ≡ refused 8
-  end-of-31-bytes : load (take 31 (endAlone 31 12)) twoRows .answer ≡ refused 4
-  end-states-32 : load (take 31 (endAlone 32 12)) twoRows .answer ≡ refused 28
-  a-states-0 : load (sized 0) twoRows .answer ≡ ok (unvisited (lent 1))
-  a-states-63 : load (sized 63) twoRows .answer ≡ ok (unvisited (lent 1))
-  a-states-65 : load (sized 65) twoRows .answer ≡ refused 28
-  a-low-byte-first : load (set (sized 0) 8 64) twoRows .answer ≡ refused 28
-  a-no-ident : load (set fileA 3 70) twoRows .answer ≡ refused 27
-  ident-before-size : load (set (sized 65) 0 114) twoRows .answer ≡ refused 27
-  size-before-major : load (set (sized 65) 5 51) twoRows .answer ≡ refused 28
-  m-whole : load (fileM 0) twoRows .answer ≡ ok (visited 1 1)
-  m-past-the-last : load (fileM 3) twoRows .answer ≡ ok (visited 1 4)
-  m-most-of-one : load (fileM 65535) twoRows .answer ≡ ok (visited 1 65536)
-  m-two-whole : load (twoM 1) twoRows .answer ≡ ok (visited 2 2)
-  m-not-reached : load (twoM 0) twoRows .answer ≡ ok (visited 2 1)
-  m-both-reached : load (twoM 300) twoRows .answer ≡ ok (visited 2 301)
-  m-no-records : load noneM twoRows .answer ≡ ok (visited 0 1)
-  m-passes : examine (twoM 1) twoRows .answer ≡ ok (visited 2 2)
+  a-loads : load fileA twoRows desktop .answer ≡ ok (unvisited (lent 1))
+  a-row : load fileA twoRows desktop .tables .records ≡ 24 ∷ 1 ∷ 2 ∷ 0 ∷ 0 ∷ 4 ∷ 48 ∷ (replicate 13 0 ++ noParent ∷ replicate recordWidth 0)
+  a-three-zeros : load (fileA ++ replicate 3 0) twoRows desktop .answer ≡ ok (unvisited (lent 1))
+  a-four-zeros : load (fileA ++ replicate 4 0) twoRows desktop .answer ≡ refused 5
+  end-loads : load (endAlone 31 12) twoRows desktop .answer ≡ ok (unvisited (lent 0))
+  end-no-tree : examine (endAlone 31 12) twoRows desktop .answer ≡ refused 15
+  end-of-size-0 : load (endAlone 31 0) twoRows desktop .answer ≡ refused 8
+  end-of-31-bytes : load (take 31 (endAlone 31 12)) twoRows desktop .answer ≡ refused 4
+  end-states-32 : load (take 31 (endAlone 32 12)) twoRows desktop .answer ≡ refused 28
+  a-states-0 : load (sized 0) twoRows desktop .answer ≡ ok (unvisited (lent 1))
+  a-states-63 : load (sized 63) twoRows desktop .answer ≡ ok (unvisited (lent 1))
+  a-states-65 : load (sized 65) twoRows desktop .answer ≡ refused 28
+  a-low-byte-first : load (set (sized 0) 8 64) twoRows desktop .answer ≡ refused 28
+  a-no-ident : load (set fileA 3 70) twoRows desktop .answer ≡ refused 27
+  ident-before-size : load (set (sized 65) 0 114) twoRows desktop .answer ≡ refused 27
+  size-before-major : load (set (sized 65) 5 51) twoRows desktop .answer ≡ refused 28
+  m-whole : load (fileM 0) twoRows desktop .answer ≡ ok (visited 1 1)
+  m-past-the-last : load (fileM 3) twoRows desktop .answer ≡ ok (visited 1 4)
+  m-most-of-one : load (fileM 65535) twoRows desktop .answer ≡ ok (visited 1 65536)
+  m-two-whole : load (twoM 1) twoRows desktop .answer ≡ ok (visited 2 2)
+  m-not-reached : load (twoM 0) twoRows desktop .answer ≡ ok (visited 2 1)
+  m-both-reached : load (twoM 300) twoRows desktop .answer ≡ ok (visited 2 301)
+  m-no-records : load noneM twoRows desktop .answer ≡ ok (visited 0 1)
+  m-passes : examine (twoM 1) twoRows desktop .answer ≡ ok (visited 2 2)
   parent-none : nodeIn (twoM 1) 0 ≡ 0 ∷ noParent ∷ []
   parent-whole : nodeIn (twoM 1) 1 ≡ 1 ∷ 0 ∷ []
   parent-not-whole : nodeIn (twoM 300) 1 ≡ 1 ∷ 0 ∷ []
   parent-unreached : nodeIn (twoM 0) 1 ≡ 0 ∷ noParent ∷ []
   parent-unused : nodeIn (fileM 0) 1 ≡ 0 ∷ 0 ∷ []
   parent-refused : nodeIn (sized 65) 0 ≡ 0 ∷ 0 ∷ []
-  d-loads : load fileD (lentPool recordWidth 6) .answer ≡ ok (unvisited (lentPool 1 2))
-  d-rows : load fileD (lentPool recordWidth 6) .tables .pool ≡ 3 ∷ 55 ∷ 8 ∷ 0 ∷ 66 ∷ 3 ∷ []
+  allowed-all : load fileA twoRows (allowance 64 1) ≡ load fileA twoRows desktop
+  allowed-by-preview : load fileA twoRows preview ≡ load fileA twoRows desktop
+  allowed-more : load fileA twoRows (allowance 65537 1025) ≡ load fileA twoRows desktop
+  allowed-most : load fileA twoRows (allowance 4294967295 4294967295) ≡ load fileA twoRows desktop
+  allowed-each-alone : load fileA twoRows (allowance 4294967295 0) .answer ≡ refused 29
+  allowed-a-byte-less : load fileA twoRows (allowance 63 1) .answer ≡ refused 29
+  allowed-no-record : load fileA twoRows (allowance 64 0) .answer ≡ refused 29
+  allowed-nothing : load fileA twoRows (allowance 0 0) .answer ≡ refused 29
+  allowed-nor-lent : load fileA (lent 0) (allowance 64 0) .answer ≡ refused 14
+  allowed-not-lent : load fileA (lent 0) (allowance 64 1) .answer ≡ refused 14
+  allowed-empty-file : load [] twoRows (allowance 0 0) .answer ≡ refused 2
+  allowed-19-of-20 : load (replicate 20 0) twoRows (allowance 19 1) .answer ≡ refused 29
+  allowed-20-of-20 : load (replicate 20 0) twoRows (allowance 20 1) .answer ≡ refused 27
+  allowed-no-records : load noneM twoRows (allowance 52 0) ≡ load noneM twoRows desktop
+  allowed-one-of-two : load (twoM 1) twoRows (allowance 100 1) .answer ≡ refused 29
+  allowed-two-of-two : load (twoM 1) twoRows (allowance 100 2) ≡ load (twoM 1) twoRows desktop
+  allowed-one-row-of-two : load (twoM 1) (lent recordWidth) (allowance 100 1) .answer ≡ refused 14
+  allowed-behind-header : load (set fileA 27 40) twoRows (allowance 64 1) .answer ≡ refused 7
+  allowed-before-content : load (set fileA 47 255) twoRows (allowance 64 0) .answer ≡ refused 29
+  allowed-content : load (set fileA 47 255) twoRows (allowance 64 1) .answer ≡ refused 7
+  allowed-passes : examine fileA twoRows (allowance 64 1) .answer ≡ ok (unvisited (lent 1))
+  allowed-not-examined : examine fileA twoRows (allowance 64 0) .answer ≡ refused 29
+  allowed-goes-on : follow fileA twoRows (allowance 64 1) 2 (0 ∷ []) .answer ≡ ok (stands (frame 0 2) none 1)
+  allowed-not-followed : follow fileA twoRows (allowance 63 1) 1 (5 ∷ []) .answer ≡ refused 29
+  d-loads : load fileD (lentPool recordWidth 6) desktop .answer ≡ ok (unvisited (lentPool 1 2))
+  d-rows : load fileD (lentPool recordWidth 6) desktop .tables .pool ≡ 3 ∷ 55 ∷ 8 ∷ 0 ∷ 66 ∷ 3 ∷ []
   d-int64 : constantD 0 ≡ ok (int (pos 258))
   d-string : constantD 1 ≡ ok (text (textRow 66 3))
-  d-not-ended : load (set fileD 69 1) (lentPool recordWidth 6) .answer ≡ refused 9
+  d-not-ended : load (set fileD 69 1) (lentPool recordWidth 6) desktop .answer ≡ refused 9
   string-inner-zero : poolText zeroInside 0 0 ≡ ok (step (textRow 2 3) 6)
   symbol-inner-zero : symbolText zeroInside 0 0 ≡ refused 9
   name-inner-zero : plainText zeroInside 0 0 ≡ refused 9
@@ -244,14 +270,14 @@ record Table : Type 0 where
   whole-tree : whole (2 ∷ 0 ∷ 0 ∷ []) ≡ true
   no-tree : whole (0 ∷ 1 ∷ []) ≡ false
   no-records : examinePattern [] ≡ 15
-  a-content : loading fileA twoRows ≡ ok (fileReading fileA .it)
-  a-meets-none : examinePattern (patternOf fileA (fileReading fileA .it)) ≡ 0
-  a-passes : examine fileA twoRows .answer ≡ ok (unvisited (lent 1))
-  a-goes-on : follow fileA twoRows 2 (0 ∷ []) .answer ≡ ok (stands (frame 0 2) none 1)
-  a-frames : follow fileA twoRows 5 (0 ∷ []) .frames ≡ 0 ∷ 2 ∷ 0 ∷ 0 ∷ 0 ∷ []
-  a-finishes : follow fileA twoRows 2 (0 ∷ 0 ∷ []) .answer ≡ ok finished
-  a-choices : follow fileA twoRows 2 (0 ∷ 5 ∷ []) .answer ≡ refused 21
-  a-short : follow fileA twoRows 1 (0 ∷ 5 ∷ []) .answer ≡ refused 14
+  a-content : loading fileA twoRows desktop ≡ ok (fileReading fileA desktop .it)
+  a-meets-none : examinePattern (patternOf fileA (fileReading fileA desktop .it)) ≡ 0
+  a-passes : examine fileA twoRows desktop .answer ≡ ok (unvisited (lent 1))
+  a-goes-on : follow fileA twoRows desktop 2 (0 ∷ []) .answer ≡ ok (stands (frame 0 2) none 1)
+  a-frames : follow fileA twoRows desktop 5 (0 ∷ []) .frames ≡ 0 ∷ 2 ∷ 0 ∷ 0 ∷ 0 ∷ []
+  a-finishes : follow fileA twoRows desktop 2 (0 ∷ 0 ∷ []) .answer ≡ ok finished
+  a-choices : follow fileA twoRows desktop 2 (0 ∷ 5 ∷ []) .answer ≡ refused 21
+  a-short : follow fileA twoRows desktop 1 (0 ∷ 5 ∷ []) .answer ≡ refused 14
   list : choices (0 ∷ 3 ∷ 1 ∷ 2 ∷ 4 ∷ []) ≡ ok (go-on ∷ caught 258 ∷ leave ∷ [])
   above : choices (5 ∷ []) ≡ refused 21
   cut : choices (3 ∷ 1 ∷ []) ≡ refused 21
@@ -259,7 +285,7 @@ record Table : Type 0 where
 samples : Table
 unfolding table row operands opcode rest lastOf jump target fetchAs fetch packedFrom packed halve lineAt handler poolText symbolText bigInteger poolValue
     poolEntry counted headAt bodyAt recordAt recordsFrom irepSection walk visits noZero plainText nameEntry recordNames lvarSection fileHead mapEntry
-    mapLines filesFrom debugRecord debugContent debugSection packedEntry endSection sectionAt sections fileRefusal fileReading fits ending loading load sized
+    mapLines filesFrom debugRecord debugContent debugSection packedEntry endSection sectionAt sections fileRefusal fileReading fits ending loadingWithin load sized
     endAlone lent twoRows nodeIn unvisited alone family oval fileD lentPool constantD fileM twoM noneM visited zeroInside recordIn rowIn bytesIn constantAt constantOf pool
     rising layout span childOf nodesFrom reach lands stray readable below allBelow operandsBelow rangeBelow bounded comments form follows firstAt firstOf exam16 exam1718 exam19 exam20 examineRecord
     examineAll examinePattern passing examining examine childOperand move oneStep runFrom choicesFrom standing laidFrames frameTable following follow
@@ -294,6 +320,30 @@ samples = record {
   parent-unreached = refl;
   parent-unused = refl;
   parent-refused = refl;
+  allowed-all = refl;
+  allowed-by-preview = refl;
+  allowed-more = refl;
+  allowed-most = refl;
+  allowed-each-alone = refl;
+  allowed-a-byte-less = refl;
+  allowed-no-record = refl;
+  allowed-nothing = refl;
+  allowed-nor-lent = refl;
+  allowed-not-lent = refl;
+  allowed-empty-file = refl;
+  allowed-19-of-20 = refl;
+  allowed-20-of-20 = refl;
+  allowed-no-records = refl;
+  allowed-one-of-two = refl;
+  allowed-two-of-two = refl;
+  allowed-one-row-of-two = refl;
+  allowed-behind-header = refl;
+  allowed-before-content = refl;
+  allowed-content = refl;
+  allowed-passes = refl;
+  allowed-not-examined = refl;
+  allowed-goes-on = refl;
+  allowed-not-followed = refl;
   d-loads = refl;
   d-rows = refl;
   d-int64 = refl;
@@ -407,10 +457,10 @@ samples = record {
 }
 
 -- A is a file that passes, so demand 3 is a claim about some file: this one
-pub a-file : FilePasses fileA
+pub a-file : FilePasses fileA desktop
 a-file =
-    let c = fileReading fileA .it in
+    let c = fileReading fileA desktop .it in
     record { tables = twoRows; content = c; loads = samples .a-content; passes = passes-iff (patternOf fileA c) .0 (samples .a-meets-none) }
 
-pub a-claim : (cs : List Choice) → Claim fileA (a-file .content) cs
-a-claim cs = demand3 fileA a-file cs
+pub a-claim : (cs : List Choice) → Claim fileA desktop (a-file .content) cs
+a-claim cs = demand3 fileA desktop a-file cs

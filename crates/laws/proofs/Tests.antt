@@ -12,35 +12,38 @@ use Rattle.format.specs.Bytes.{refuse, first}
 use Rattle.format.specs.File.{identIsRite, statedSize, majorIs04, fileRefusal}
 use Rattle.laws.proofs.Numbers.{Among, testNumbers}
 
--- paper 01's tests, 1 to 4
-abbrev pub without : Bool → Bool → Bool → Bool → ℕ
-without small headed major long = first (refuse 1 small) (first (refuse 2 headed) (first (refuse 3 major) (refuse 4 long)))
+-- paper 01's tests, 1 to 4, with h)'s 29 behind 1
+abbrev pub without : Bool → Bool → Bool → Bool → Bool → ℕ
+without small within headed major long = first (refuse 1 small) (first (refuse 29 within) (first (refuse 2 headed) (first (refuse 3 major) (refuse 4 long))))
 
--- The number k of a file's tests is 0 or one of theirs; when it is 27, and when 28; and it is that of paper 01's tests where it is neither.
-pub record Outcome (k : ℕ) (small headed rite sized major long : Bool) : Type 0 where
+-- The number k of a file's tests is 0 or one of theirs; when it is 27, and when 28; and it is that of the other tests where it is neither.
+pub record Outcome (k : ℕ) (small within headed rite sized major long : Bool) : Type 0 where
   pub among : Among (0 ∷ testNumbers) k
-  pub at-27 : eqb k 27 ≡ (small && headed && not rite)
-  pub at-28 : eqb k 28 ≡ (small && headed && rite && not sized)
-  pub else : cond (eqb k 27 || eqb k 28) k (without small headed major long) ≡ k
+  pub at-27 : eqb k 27 ≡ (small && within && headed && not rite)
+  pub at-28 : eqb k 28 ≡ (small && within && headed && rite && not sized)
+  pub else : cond (eqb k 27 || eqb k 28) k (without small within headed major long) ≡ k
 
-outcomes : (a b c d g h : Bool)
-    → Outcome (first (refuse 1 a) (first (refuse 2 b) (first (refuse 27 c) (first (refuse 28 d) (first (refuse 3 g) (refuse 4 h)))))) a b c d g h
-outcomes false b c d g h = record { among = tt; at-27 = refl; at-28 = refl; else = refl }
-outcomes true false c d g h = record { among = tt; at-27 = refl; at-28 = refl; else = refl }
-outcomes true true false d g h = record { among = tt; at-27 = refl; at-28 = refl; else = refl }
-outcomes true true true false g h = record { among = tt; at-27 = refl; at-28 = refl; else = refl }
-outcomes true true true true false h = record { among = tt; at-27 = refl; at-28 = refl; else = refl }
-outcomes true true true true true false = record { among = tt; at-27 = refl; at-28 = refl; else = refl }
-outcomes true true true true true true = record { among = tt; at-27 = refl; at-28 = refl; else = refl }
+outcomes : (a b c d g h k : Bool)
+    → Outcome (first (refuse 1 a) (first (refuse 29 b) (first (refuse 2 c) (first (refuse 27 d) (first (refuse 28 g) (first (refuse 3 h) (refuse 4 k))))))) a b c d g h k
+outcomes false b c d g h k = record { among = tt; at-27 = refl; at-28 = refl; else = refl }
+outcomes true false c d g h k = record { among = tt; at-27 = refl; at-28 = refl; else = refl }
+outcomes true true false d g h k = record { among = tt; at-27 = refl; at-28 = refl; else = refl }
+outcomes true true true false g h k = record { among = tt; at-27 = refl; at-28 = refl; else = refl }
+outcomes true true true true false h k = record { among = tt; at-27 = refl; at-28 = refl; else = refl }
+outcomes true true true true true false k = record { among = tt; at-27 = refl; at-28 = refl; else = refl }
+outcomes true true true true true true false = record { among = tt; at-27 = refl; at-28 = refl; else = refl }
+outcomes true true true true true true true = record { among = tt; at-27 = refl; at-28 = refl; else = refl }
 
-module _ (f : List ℕ) where
-  pub tests-are : Outcome (fileRefusal f) (leb (length f) 65536) (leb 20 (length f)) (identIsRite f) (leb (statedSize f) (length f)) (majorIs04 f) (leb 32 (length f))
+-- where so many bytes are allowed
+module _ (f : List ℕ) (allowed : ℕ) where
+  pub tests-are : Outcome (fileRefusal f allowed) (leb (length f) 65536) (leb (length f) allowed) (leb 20 (length f))
+      (identIsRite f) (leb (statedSize f) (length f)) (majorIs04 f) (leb 32 (length f))
   unfolding fileRefusal
-  tests-are = outcomes _ _ _ _ _ _
+  tests-are = outcomes _ _ _ _ _ _ _
 
   -- a file's tests refuse by their numbers alone
-  pub tests-among : ¬ (fileRefusal f ≡ 0) → Among testNumbers (fileRefusal f)
-  tests-among z = rw (ne-eqb (fileRefusal f) 0 z) at (tests-are .among)
+  pub tests-among : ¬ (fileRefusal f allowed ≡ 0) → Among testNumbers (fileRefusal f allowed)
+  tests-among z = rw (ne-eqb (fileRefusal f allowed) 0 z) at (tests-are .among)
 
 -- a number that is k exactly where a test says so
 pub number-iff : (n k : ℕ) (b : Bool) → eqb n k ≡ b → (n ≡ k) ↔ T b

@@ -11,6 +11,7 @@ use Rattle.format.specs.Bytes.{ok, u32At}
 use Rattle.format.specs.Irep.{Rec}
 use Rattle.format.specs.Walk.{rlens, visits}
 use Rattle.format.specs.Lvar.{Lvar, recordNames}
+use Rattle.format.specs.Allowance.{Allowance, granted}
 use Rattle.format.specs.File.{Content, content}
 use Rattle.format.specs.Load.{Nine, recordsOf, namesOf, filesOf, tablesOf, used, visitsOf, loading, load}
 use Rattle.format.specs.Tree.{total, Whole, span}
@@ -37,9 +38,9 @@ names-visited f l (some rs) (some _) x q =
     let w = lvar-walked g (x .at) rs (x .size) (x .ends) in
     rw (← x .it, w .names) (walk-span (recordNames g (u32At g 8)) rs 1 (w .at) (w .end) (w .ends))
 
-module _ (f : List ℕ) (m : Nine) (c : Content) (loads : loading f m ≡ ok c) where
+module _ (f : List ℕ) (m : Nine) (a : Allowance) (c : Content) (loads : loading f m a ≡ ok c) where
   -- "The load result carries the number of visits that the LVAR walk made"
-  pub carried : load f m .answer ≡ ok (record { rows = used (tablesOf c); visits = visitsOf c })
+  pub carried : load f m a .answer ≡ ok (record { rows = used (tablesOf c); visits = visitsOf c })
   unfolding load
   carried = rw loads
 
@@ -50,11 +51,11 @@ module _ (f : List ℕ) (m : Nine) (c : Content) (loads : loading f m ≡ ok c) 
   -- at most 1 + 1,024 * 65,535 of them, whatever the bytes: 32 bits hold it
   pub at-most : ((i : ℕ) → getD f i 0 < 256) → visitsOf c ≤ 67107841
   at-most bytes =
-      let x = loading-reading f m c loads in
+      let x = loading-reading f m a c loads in
       let n = records-length c in
-      let few : length (recordsOf c) ≤ 1024 = omega (arith, n, loading-held f m c loads .few) in
+      let few : length (recordsOf c) ≤ 1024 = omega (arith, n, loading-held f m a c loads .few) in
       let all : length (recordsOf c) ≤ 1024 → visitsOf c ≤ 67107841 =
-      subst (λ (d : Content). length (recordsOf d) ≤ 1024 → visitsOf d ≤ 67107841) (x .0) (visits-few f bytes) in
+      subst (λ (d : Content). length (recordsOf d) ≤ 1024 → visitsOf d ≤ 67107841) (x .0) (visits-few f bytes (granted a)) in
       all few
 
   -- with an LVAR section l: its names are lists, one for each record visited
@@ -64,8 +65,8 @@ module _ (f : List ℕ) (m : Nine) (c : Content) (loads : loading f m ≡ ok c) 
 
     pub visited : length (l .names) ≡ span 1 (rlens (recordsOf c))
     visited =
-        let x = loading-reading f m c loads in
-        let is : LvarOf f (c .irep) (c .lvar) = subst (λ (d : Content). LvarOf f (d .irep) (d .lvar)) (x .0) (reading-lvar f (x .1 .0) (x .1 .1)) in
+        let x = loading-reading f m a c loads in
+        let is : LvarOf f (c .irep) (c .lvar) = subst (λ (d : Content). LvarOf f (d .irep) (d .lvar)) (x .0) (reading-lvar f (granted a) (x .1 .0) (x .1 .1)) in
         rw there at (names-visited f l (c .irep) (c .lvar) is there)
 
     -- "else 1 plus the rlens of the records visited"

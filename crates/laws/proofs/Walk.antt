@@ -18,6 +18,7 @@ use Rattle.format.specs.Irep.{Rec, irepSection}
 use Rattle.format.specs.Walk.{walk}
 use Rattle.format.specs.Lvar.{plainText, nameEntry, recordNames, Lvar, lvarSection}
 use Rattle.format.specs.Debug.{Debug, debugSection}
+use Rattle.format.specs.Allowance.{Allowance}
 use Rattle.format.specs.File.{Content, content, isMark, endSection, once, afterIrep, sectionAt, fileReading}
 use Rattle.format.specs.Load.{recordsOf, namesOf}
 use Rattle.format.specs.Tree.{total, Whole}
@@ -194,31 +195,31 @@ module _ (f : List ℕ) (at size : ℕ) where
   good-dbg (some rs) l (some d) x k e = x
   good-dbg (some rs) l none x k e = x
 
-  good-section : (i : Option (List Rec)) (l : Option Lvar) (d : Option Debug) → LvarOf f i l → Good (sectionAt f (content i l d) at)
+  good-section : (allowed : ℕ) (i : Option (List Rec)) (l : Option Lvar) (d : Option Debug) → LvarOf f i l → Good (sectionAt f allowed (content i l d) at)
   unfolding sectionAt
-  good-section i l d x = by-mark (isMark f at mark.irep) (isMark f at mark.lvar) (isMark f at mark.dbg) (isMark f at mark.end)
+  good-section allowed i l d x = by-mark (isMark f at mark.irep) (isMark f at mark.lvar) (isMark f at mark.dbg) (isMark f at mark.end)
     where
       by-mark : (p q r s : Bool)
           → Good
-          (cond p (once i (content i l d) (let s = irepSection (drop at f) at in part (content (some (s .rows)) l d) (s .end)))
+          (cond p (once i (content i l d) (let s = irepSection (drop at f) at allowed in part (content (some (s .rows)) l d) (s .end)))
           (cond q (afterIrep (content i l d) (λ rs. once l (content i l d) (let s = lvarSection (drop at f) at rs in part (content i (some (s .it)) d) (s .end))))
           (cond r (afterIrep (content i l d) (λ rs. once d (content i l d) (let s = debugSection (drop at f) at rs in part (content i l (some (s .it))) (s .end))))
           (cond s (part (content i l d) (endSection (drop at f))) (part (content i l d) (refused 5))))))
-      by-mark true q r s = good-irep i l d x (irepSection (drop at f) at .rows) (irepSection (drop at f) at .end)
+      by-mark true q r s = good-irep i l d x (irepSection (drop at f) at allowed .rows) (irepSection (drop at f) at allowed .end)
       by-mark false true r s = good-lvar i l d x
       by-mark false false true s = good-dbg i l d x (debugSection (drop at f) at)
       by-mark false false false true = λ e. x
       by-mark false false false false = λ e. x
 
-pub reading-lvar : (f : List ℕ) (to : ℕ) → fileReading f .end ≡ ok to → LvarOf f (fileReading f .it .irep) (fileReading f .it .lvar)
-reading-lvar f to e =
-    reading-keeps f (λ c. LvarOf f (c .irep) (c .lvar)) (λ c at x size q. good-section f at size (c .irep) (c .lvar) (c .dbg) x q) tt to e
+pub reading-lvar : (f : List ℕ) (a : Allowance) (to : ℕ) → fileReading f a .end ≡ ok to → LvarOf f (fileReading f a .it .irep) (fileReading f a .it .lvar)
+reading-lvar f a to e =
+    reading-keeps f a (λ c. LvarOf f (c .irep) (c .lvar)) (λ c at x size q. good-section f at size (a .records) (c .irep) (c .lvar) (c .dbg) x q) tt to e
 
 -- A file that nothing refuses, with an LVAR section and a whole tree: each record has a name for each local but one.
-pub file-names : (f : List ℕ) (to : ℕ) → fileReading f .end ≡ ok to
-    → let c = fileReading f .it in
+pub file-names : (f : List ℕ) (a : Allowance) (to : ℕ) → fileReading f a .end ≡ ok to
+    → let c = fileReading f a .it in
     (l : Lvar) → c .lvar ≡ some l → Whole (rlens (recordsOf c)) → (i : ℕ) (d : Rec) → i < length (recordsOf c) → Named (getD (recordsOf c) i d) (getD (namesOf c) i [])
-file-names f to e l q w i d h = go (fileReading f .it) (reading-lvar f to e) q w h
+file-names f a to e l q w i d h = go (fileReading f a .it) (reading-lvar f a to e) q w h
   where
     go : (c : Content) → LvarOf f (c .irep) (c .lvar) → c .lvar ≡ some l → Whole (rlens (recordsOf c)) → i < length (recordsOf c) → Named (getD (recordsOf c) i d) (getD (namesOf c) i [])
     go c x q w h = of (c .irep) (c .lvar) x q w h
