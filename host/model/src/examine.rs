@@ -1,14 +1,15 @@
 //! Examination: 15 over the tree, then 16 to 20 and 25 record by record.
 
 use crate::Refusal;
+use crate::allowance::Allowance;
 use crate::insn::{Flow, OPCODES, Role, flow, is_prefix, roles};
 use crate::load::read;
 use crate::registers::last_register;
 use crate::rows::{Loaded, Record, Rows, Sizes};
 
-/// Loads a file and examines it; a file that passes answers what its load answers.
-pub fn examine(file: &[u8], lent: &Sizes) -> Loaded {
-    let reading = read(file, lent.rows());
+/// Loads a file under an allowance and examines it; a file that passes answers what its load answers.
+pub fn examine(file: &[u8], allowance: Allowance, lent: &Sizes) -> Loaded {
+    let reading = read(file, allowance, lent.rows());
     match reading.end.and_then(|()| passes(file, &reading.rows)) {
         Ok(()) => reading.rows.loaded(lent),
         Err(number) => Loaded::refused(number, lent),

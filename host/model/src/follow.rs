@@ -1,6 +1,7 @@
 //! The run of a file that passes, along a list of choices.
 
 use crate::Refusal;
+use crate::allowance::Allowance;
 use crate::examine::{child, code, passes, step_at};
 use crate::insn::{Flow, OPCODES, flow};
 use crate::line::line_at;
@@ -61,8 +62,14 @@ pub fn choices(bytes: &[u8]) -> Result<Vec<Choice>, Refusal> {
 }
 
 /// "Follow loads, tests its frame table, examines, reads the whole choice list for 21, then runs".
-pub fn follow(file: &[u8], lent: &Sizes, frame_words: usize, bytes: &[u8]) -> Followed {
-    let reading = read(file, lent.rows());
+pub fn follow(
+    file: &[u8],
+    allowance: Allowance,
+    lent: &Sizes,
+    frame_words: usize,
+    bytes: &[u8],
+) -> Followed {
+    let reading = read(file, allowance, lent.rows());
     let tested = || -> Result<Vec<Choice>, Refusal> {
         reading.end?;
         // "follow's frame table has fewer rows than the file has records"

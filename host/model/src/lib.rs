@@ -1,4 +1,4 @@
-//! Paper 01 and requests a) to e), g), j) and m) of paper 02 as plain Rust: slow, readable, without any `unsafe`. Opcode names and operand kinds are
+//! Paper 01 and requests a) to e), g), h), j) and m) of paper 02 as plain Rust: slow, readable, without any `unsafe`. Opcode names and operand kinds are
 //! those of insn.rs.
 //!
 //! Comments in quotation marks are the papers' own words.
@@ -6,6 +6,7 @@
 
 #![forbid(unsafe_code)]
 
+mod allowance;
 mod examine;
 mod follow;
 mod insn;
@@ -15,6 +16,7 @@ mod lookup;
 mod registers;
 mod rows;
 
+pub use allowance::Allowance;
 pub use examine::{Step, bound, child, examine, is_whole, passes, step_at};
 pub use follow::{Choice, Followed, choices, follow};
 pub use insn::{Fetched, Flow, Kind, OPCODES, Opcode, Role, fetch, flow, is_prefix, roles};

@@ -1,5 +1,6 @@
 //! Forward reading of a file: header, sections, records, names, debug records.
 
+use crate::allowance::Allowance;
 use crate::line::packed;
 use crate::rows::{
     DebugFile, Entry, Handler, Loaded, Name, PoolRow, Record, Rows, Sizes, Span, Text,
@@ -14,19 +15,19 @@ pub struct Reading {
     pub end: Result<(), Refusal>,
 }
 
-/// Loads a file over lent tables.
-pub fn load(file: &[u8], lent: &Sizes) -> Loaded {
-    let reading = read(file, lent.rows());
+/// Loads a file under an allowance over lent tables.
+pub fn load(file: &[u8], allowance: Allowance, lent: &Sizes) -> Loaded {
+    let reading = read(file, allowance, lent.rows());
     match reading.end {
         Ok(()) => reading.rows.loaded(lent),
         Err(number) => Loaded::refused(number, lent),
     }
 }
 
-/// Reads a file with so many rows lent of each table.
-pub fn read(file: &[u8], lent: [usize; 9]) -> Reading {
+/// Reads a file under an allowance with so many rows lent of each table.
+pub fn read(file: &[u8], allowance: Allowance, lent: [usize; 9]) -> Reading {
     let mut rows = Rows::lent(lent);
-    let end = read_file(file, &mut rows);
+    let end = read_file(file, allowance.granted(), &mut rows);
     if end.is_ok() {
         place_in_tree(0, 0, NO_PARENT, &mut rows.records.rows);
     }
@@ -85,10 +86,14 @@ fn high_first(bytes: &[u8]) -> u32 {
     bytes.iter().fold(0, |n, b| n * 256 + u32::from(*b))
 }
 
-/// "1 to 4 are tested in order", and between 2 and 3 the two numbers of paper 02.
-fn header_is_good(file: &[u8]) -> Result<(), Refusal> {
+/// "1 to 4 are tested in order", and between them three numbers of paper 02.
+fn header_is_good(file: &[u8], bytes_allowed: u32) -> Result<(), Refusal> {
     if file.len() > FILE_LIMIT {
         return Err(1);
+    }
+    // "29 when the file .. is beyond the caller's allowance but within the desktop's, at 1's place".
+    if file.len() > bytes_allowed as usize {
+        return Err(29);
     }
     if file.len() < HEADER {
         return Err(2);
@@ -119,8 +124,8 @@ struct Begun {
     dbg: bool,
 }
 
-fn read_file(file: &[u8], rows: &mut Rows) -> Result<(), Refusal> {
-    header_is_good(file)?;
+fn read_file(file: &[u8], allowance: Allowance, rows: &mut Rows) -> Result<(), Refusal> {
+    header_is_good(file, allowance.bytes)?;
     let mut begun = Begun::default();
     let mut start = HEADER;
     // "Sections follow until fewer than 4 bytes are left; those are ignored."
@@ -131,7 +136,7 @@ fn read_file(file: &[u8], rows: &mut Rows) -> Result<(), Refusal> {
                     return Err(6);
                 }
                 begun.irep = true;
-                read_irep(file, start, rows)?
+                read_irep(file, start, allowance.records, rows)?
             }
             b"LVAR" => {
                 if begun.lvar || !begun.irep {
@@ -173,7 +178,12 @@ fn size_is_not_0(size: usize) -> Result<(), Refusal> {
 }
 
 /// Reads an IREP section and answers its size.
-fn read_irep(file: &[u8], start: usize, rows: &mut Rows) -> Result<usize, Refusal> {
+fn read_irep(
+    file: &[u8],
+    start: usize,
+    records_allowed: u32,
+    rows: &mut Rows,
+) -> Result<usize, Refusal> {
     let mut part = Part::from(file, start);
     part.bytes(4)?;
     let size = part.four()? as usize;
@@ -183,7 +193,7 @@ fn read_irep(file: &[u8], start: usize, rows: &mut Rows) -> Result<usize, Refusa
     // "its records, which follow until the place reaches the section size"
     let mut place = 12;
     while place < size {
-        let stated = read_record(file, start + place, rows)?;
+        let stated = read_record(file, start + place, records_allowed, rows)?;
         // "The next record starts at this start plus the stated size, wherever reading ended"
         place += stated;
     }
@@ -192,7 +202,12 @@ fn read_irep(file: &[u8], start: usize, rows: &mut Rows) -> Result<usize, Refusa
 }
 
 /// Reads a record and answers its stated size.
-fn read_record(file: &[u8], start: usize, rows: &mut Rows) -> Result<usize, Refusal> {
+fn read_record(
+    file: &[u8],
+    start: usize,
+    records_allowed: u32,
+    rows: &mut Rows,
+) -> Result<usize, Refusal> {
     // "reads may pass the section but not the file"
     let mut part = Part::from(file, start);
     let header = part.bytes(16)?;
@@ -214,8 +229,13 @@ fn read_record(file: &[u8], start: usize, rows: &mut Rows) -> Result<usize, Refu
         depth: 0,
         parent: NO_PARENT,
     };
-    // "A record's row is needed once its 16 bytes are read"
+    // "A record's row is needed once its 16 bytes are read"; "where the lent table is too short as well, 14".
     let number = rows.records.rows.len();
+    rows.records.has_place()?;
+    // "29 when .. its record number is beyond the caller's allowance .., at .. 14's [place] for records".
+    if number + 1 > records_allowed as usize {
+        return Err(29);
+    }
     rows.records.need(record)?;
     part.bytes(record.ilen as usize)?;
 

@@ -245,11 +245,17 @@ impl<Row: Words> Table<Row> {
         }
     }
 
-    /// Takes the next row, or meets 14: "a needed row is beyond its lent table".
-    pub fn need(&mut self, row: Row) -> Result<(), Refusal> {
+    /// "14: a needed row is beyond its lent table".
+    pub fn has_place(&self) -> Result<(), Refusal> {
         if self.rows.len() == self.lent {
             return Err(14);
         }
+        Ok(())
+    }
+
+    /// Takes the next row, or meets 14.
+    pub fn need(&mut self, row: Row) -> Result<(), Refusal> {
+        self.has_place()?;
         self.rows.push(row);
         Ok(())
     }

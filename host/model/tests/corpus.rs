@@ -28,7 +28,7 @@ fn corpus() -> Vec<(String, Vec<u8>)> {
 
 /// Tables that fit the file exactly.
 fn exact(file: &[u8]) -> Sizes {
-    Sizes::of_rows(read(file, [usize::MAX; 9]).rows.used())
+    Sizes::of_rows(read(file, Allowance::DESKTOP, [usize::MAX; 9]).rows.used())
 }
 
 /// The files of one program of the corpus, without and with debug sections.
@@ -40,7 +40,7 @@ fn program(name: &str) -> impl Iterator<Item = Vec<u8>> {
 
 /// The constants of a file's first record.
 fn constants(file: &[u8]) -> Vec<Constant> {
-    let tables = load(file, &exact(file)).tables;
+    let tables = load(file, Allowance::DESKTOP, &exact(file)).tables;
     (0..)
         .map_while(|index| pool(file, &tables, 0, index).ok())
         .collect()
@@ -75,7 +75,11 @@ fn texts_with_zeros_are_those_of_the_program() {
 #[test]
 fn all_pass() {
     for (name, file) in corpus() {
-        assert_eq!(examine(&file, &exact(&file)).refusal, 0, "{name}");
+        assert_eq!(
+            examine(&file, Allowance::DESKTOP, &exact(&file)).refusal,
+            0,
+            "{name}"
+        );
     }
 }
 
@@ -93,7 +97,7 @@ fn steps(code: &[u8]) -> Vec<Step> {
 
 /// The instructions of a file's records.
 fn all_steps(file: &[u8]) -> Vec<Vec<Step>> {
-    let loaded = load(file, &exact(file));
+    let loaded = load(file, Allowance::DESKTOP, &exact(file));
     let records = 0..loaded.rows[0];
     records
         .map(|record| steps(instructions(file, &loaded.tables, record).unwrap().of(file)))
@@ -138,7 +142,7 @@ fn no_file_has_a_newer_opcode() {
 #[test]
 fn lookups_answer_throughout() {
     for (name, file) in corpus() {
-        let loaded = load(&file, &exact(&file));
+        let loaded = load(&file, Allowance::DESKTOP, &exact(&file));
         let t = &loaded.tables;
         for r in 0..loaded.rows[0] {
             let row = &t[0][r as usize * RECORD_WORDS..][..RECORD_WORDS];
@@ -163,7 +167,7 @@ fn is_named(file: &[u8], tables: &Tables, record: u32, index: u32) -> bool {
 fn every_choice_keeps_the_frames_within_the_records() {
     for (name, file) in corpus() {
         let lent = exact(&file);
-        let records = load(&file, &lent).rows[0];
+        let records = load(&file, Allowance::DESKTOP, &lent).rows[0];
         let mut seed = file.len() as u64;
         for _ in 0..40 {
             let mut choices = Vec::new();
@@ -177,7 +181,13 @@ fn every_choice_keeps_the_frames_within_the_records() {
                     _ => choices.push(4),
                 }
             }
-            let followed = follow(&file, &lent, records as usize * 2, &choices);
+            let followed = follow(
+                &file,
+                Allowance::DESKTOP,
+                &lent,
+                records as usize * 2,
+                &choices,
+            );
             assert_eq!(followed.loaded.refusal, 0, "{name}");
             assert!(followed.frames <= records, "{name}");
             assert_eq!(followed.finished, followed.frames == 0, "{name}");

@@ -33,7 +33,7 @@ fn lvar() -> Vec<u8> {
 
 /// The depth and the parent of each record, by the words of its row.
 fn places(file: &[u8]) -> Vec<(u32, u32)> {
-    let loaded = load(file, &Sizes::of_rows([RECORD_LIMIT; 9]));
+    let loaded = load(file, Allowance::DESKTOP, &Sizes::of_rows([RECORD_LIMIT; 9]));
     assert_eq!(loaded.refusal, 0);
     let (used, unused) = loaded.tables[0].split_at(loaded.rows[0] as usize * RECORD_WORDS);
     assert!(unused.iter().all(|word| *word == 0));
@@ -134,5 +134,8 @@ fn a_refused_load_leaves_zeros() {
     let mut file = file(&[1, 0], &[]);
     *file.last_mut().unwrap() = 255;
     let lent = Sizes::of_rows([4; 9]);
-    assert_eq!(load(&file, &lent), Loaded::refused(7, &lent));
+    assert_eq!(
+        load(&file, Allowance::DESKTOP, &lent),
+        Loaded::refused(7, &lent)
+    );
 }

@@ -79,11 +79,11 @@ fn file_a() -> Vec<u8> {
 }
 
 fn refusal(file: &[u8]) -> Refusal {
-    load(file, &enough()).refusal
+    load(file, Allowance::DESKTOP, &enough()).refusal
 }
 
 fn examined(file: &[u8]) -> Refusal {
-    examine(file, &enough()).refusal
+    examine(file, Allowance::DESKTOP, &enough()).refusal
 }
 
 /// A file with one record of this code, two registers, two constants, one symbol and no child.
@@ -111,7 +111,7 @@ fn file_a_is_the_papers() {
 
 #[test]
 fn file_a_loads() {
-    let loaded = load(&file_a(), &enough());
+    let loaded = load(&file_a(), Allowance::DESKTOP, &enough());
     assert_eq!(loaded.refusal, 0);
     assert_eq!(loaded.rows, [1, 0, 0, 0, 0, 0, 0, 0, 0]);
     let lists = [0; 12];
@@ -125,7 +125,7 @@ fn file_a_loads() {
 
 #[test]
 fn file_a_is_followed() {
-    let go = |n: usize| follow(&file_a(), &enough(), 2, &vec![0; n]);
+    let go = |n: usize| follow(&file_a(), Allowance::DESKTOP, &enough(), 2, &vec![0; n]);
     let one = go(1);
     assert_eq!(one.loaded.refusal, 0);
     assert_eq!(
@@ -155,9 +155,14 @@ fn no_record() {
     short.extend(b"END\0\0\0\0\x0c\0\0\0\0");
     assert_eq!(short.len(), 32);
     assert_eq!(refusal(&short), 0);
-    assert_eq!(load(&short, &enough()).rows, [0; 9]);
+    assert_eq!(load(&short, Allowance::DESKTOP, &enough()).rows, [0; 9]);
     assert_eq!(examined(&short), 15);
-    assert_eq!(follow(&short, &enough(), 0, &[]).loaded.refusal, 15);
+    assert_eq!(
+        follow(&short, Allowance::DESKTOP, &enough(), 0, &[])
+            .loaded
+            .refusal,
+        15
+    );
     assert_eq!(refusal(&short[..31]), 4);
     assert_eq!(refusal(&sized(&short[..31], 32)), 28);
     short[27] = 0;
@@ -594,7 +599,12 @@ fn idents() {
         let drawing = changed(&a, 0, other);
         assert_eq!(refusal(&drawing), 27, "{other:?}");
         assert_eq!(examined(&drawing), 27, "{other:?}");
-        assert_eq!(follow(&drawing, &enough(), 0, &[5]).loaded.refusal, 27);
+        assert_eq!(
+            follow(&drawing, Allowance::DESKTOP, &enough(), 0, &[5])
+                .loaded
+                .refusal,
+            27
+        );
     }
 }
 
@@ -708,7 +718,7 @@ fn pool_strings_may_have_zeros_inside() {
         for kind in [0, 2] {
             let entry = [&[kind][..], &be2(text.len()), text, &[last]].concat();
             let file = with_texts(&[&entry], &[], &[]);
-            let loaded = load(&file, &enough());
+            let loaded = load(&file, Allowance::DESKTOP, &enough());
             assert_eq!(loaded.refusal, number, "{kind} {text:?}");
             assert_eq!(examined(&file), number, "{kind} {text:?}");
             if number == 0 {
@@ -774,7 +784,7 @@ fn eight_byte_integers_are_high_byte_first() {
         let integer = [&[3][..], &bytes].concat();
         let float = [&[5][..], &bytes].concat();
         let file = with_texts(&[&integer, &float], &[], &[]);
-        let tables = load(&file, &enough()).tables;
+        let tables = load(&file, Allowance::DESKTOP, &enough()).tables;
         assert_eq!(pool(&file, &tables, 0, 0), Ok(Constant::Int(number)));
         let Ok(Constant::Float(found)) = pool(&file, &tables, 0, 1) else {
             panic!("no float");
@@ -822,7 +832,7 @@ fn full() -> Vec<u8> {
 #[test]
 fn every_table() {
     let file = full();
-    let loaded = load(&file, &enough());
+    let loaded = load(&file, Allowance::DESKTOP, &enough());
     assert_eq!(loaded.refusal, 0);
     assert_eq!(loaded.rows, [2, 2, 6, 3, 2, 3, 2, 3, 6]);
     let t = &loaded.tables;
@@ -846,7 +856,7 @@ fn every_table() {
 #[test]
 fn lookups() {
     let file = full();
-    let t = load(&file, &enough()).tables;
+    let t = load(&file, Allowance::DESKTOP, &enough()).tables;
     let text = |found: FoundText| found.of(&file).to_vec();
     assert_eq!(text(instructions(&file, &t, 1).unwrap()), [17, 0, 118]);
     assert_eq!(instructions(&file, &t, 2), Err(22));
@@ -884,7 +894,7 @@ fn lookups() {
 #[test]
 fn lookups_over_hostile_tables() {
     let file = full();
-    let good = load(&file, &enough()).tables;
+    let good = load(&file, Allowance::DESKTOP, &enough()).tables;
     let with = |table: usize, word: usize, value: u32| {
         let mut t = good.clone();
         t[table][word] = value;
@@ -921,21 +931,26 @@ fn lookups_over_hostile_tables() {
 #[test]
 fn lent_tables() {
     let file = full();
-    let used = load(&file, &enough()).rows.map(|rows| rows as usize);
+    let used = load(&file, Allowance::DESKTOP, &enough())
+        .rows
+        .map(|rows| rows as usize);
     let exact = Sizes::of_rows(used);
-    assert_eq!(load(&file, &exact).refusal, 0);
+    assert_eq!(load(&file, Allowance::DESKTOP, &exact).refusal, 0);
     for t in 0..9 {
         let mut short = exact;
         short.0[t] -= 1;
-        let refused = load(&file, &short);
+        let refused = load(&file, Allowance::DESKTOP, &short);
         assert_eq!(refused, Loaded::refused(14, &short), "{}", NAMES[t]);
         let mut long = exact;
         long.0[t] += ROW_WORDS[t] - 1;
-        let loaded = load(&file, &long);
+        let loaded = load(&file, Allowance::DESKTOP, &long);
         assert_eq!(loaded.refusal, 0);
         assert!(loaded.tables[t][exact.0[t]..].iter().all(|w| *w == 0));
     }
-    assert_eq!(load(&file, &Sizes::default()).refusal, 14);
+    assert_eq!(
+        load(&file, Allowance::DESKTOP, &Sizes::default()).refusal,
+        14
+    );
 }
 
 #[test]
@@ -956,7 +971,7 @@ fn cuts_are_refused() {
 
 /// The frames that choices leave, of five at most.
 fn frames_after(file: &[u8], choices: &[u8]) -> Vec<u32> {
-    let followed = follow(file, &enough(), 10, choices);
+    let followed = follow(file, Allowance::DESKTOP, &enough(), 10, choices);
     assert_eq!(followed.loaded.refusal, 0);
     let mut table = followed.frame_table;
     assert!(
@@ -997,7 +1012,7 @@ fn frames_of_children() {
     assert_eq!(frames(&[4, 2, 0]), []);
     assert_eq!(frames(&[2, 2, 2, 1, 2]), [0, 3, 3, 0]);
     let refused = |words: usize, choices: &[u8]| {
-        let followed = follow(&file, &enough(), words, choices);
+        let followed = follow(&file, Allowance::DESKTOP, &enough(), words, choices);
         assert!(followed.frame_table.iter().all(|w| *w == 0));
         followed.loaded.refusal
     };
@@ -1085,13 +1100,19 @@ fn children_above_255() {
             [116, 97, 0, high, low, 118].to_vec(),
             [117, 105, 0, 0, high, low, 118].to_vec(),
         ] {
-            let followed = follow(&with_300_children(&code), &lent, 604, &[2]);
+            let followed = follow(
+                &with_300_children(&code),
+                Allowance::DESKTOP,
+                &lent,
+                604,
+                &[2],
+            );
             assert_eq!(followed.loaded.refusal, 0);
             assert_eq!(followed.top, Some((record, 0)), "{code:?}");
         }
     }
     let past = with_300_children(&[116, 97, 0, 1, 44, 118]);
-    assert_eq!(examine(&past, &lent).refusal, 17);
+    assert_eq!(examine(&past, Allowance::DESKTOP, &lent).refusal, 17);
 }
 
 /// The refusal of a file over enough rows, but for one table without any.
@@ -1099,7 +1120,7 @@ fn without(table: usize, file: &[u8]) -> Refusal {
     let mut rows = [64; 9];
     rows[table] = 0;
     let lent = Sizes::of_rows(rows);
-    let loaded = load(file, &lent);
+    let loaded = load(file, Allowance::DESKTOP, &lent);
     assert!(loaded.refusal == 0 || loaded.tables == lent.zeros());
     loaded.refusal
 }
@@ -1232,9 +1253,15 @@ fn rows_of_debug_files_are_needed_once_their_kind_is_accepted() {
     let same = with(&debug(1, &[file(zero, 0, 2, 0, &[0, 1, 0, 1])]));
     let mut rows = [64; 9];
     rows[8] = 1;
-    assert_eq!(load(&same, &Sizes::of_rows(rows)).refusal, 0);
+    assert_eq!(
+        load(&same, Allowance::DESKTOP, &Sizes::of_rows(rows)).refusal,
+        0
+    );
     let other = with(&debug(1, &[file(zero, 0, 2, 0, &[0, 1, 0, 2])]));
-    assert_eq!(load(&other, &Sizes::of_rows(rows)).refusal, 14);
+    assert_eq!(
+        load(&other, Allowance::DESKTOP, &Sizes::of_rows(rows)).refusal,
+        14
+    );
     let wrong = with(&[0, 0, 0, 7, 0, 0]);
     assert_eq!(refusal(&wrong), 12);
 }
@@ -1244,10 +1271,10 @@ fn the_1025th_record_has_no_row() {
     let record = record([1, 0, 0], &[], &[], &[], &[]);
     let lent = Sizes::of_rows([2000; 9]);
     let with = |count: usize| file(&[irep(&vec![record.clone(); count])]);
-    assert_eq!(load(&with(1024), &lent).refusal, 0);
-    assert_eq!(load(&with(1025), &lent).refusal, 14);
+    assert_eq!(load(&with(1024), Allowance::DESKTOP, &lent).refusal, 0);
+    assert_eq!(load(&with(1025), Allowance::DESKTOP, &lent).refusal, 14);
     let section = 12 + 1024 * 20 + 15;
     let cut = sized(&with(1025)[..20 + section], 20 + section);
     let cut = changed(&cut, 24, &be4(section));
-    assert_eq!(load(&cut, &lent).refusal, 7);
+    assert_eq!(load(&cut, Allowance::DESKTOP, &lent).refusal, 7);
 }
