@@ -15,6 +15,17 @@
    1 KiB, as measured. What a compiler writes needs far less: some 8 KiB for a load, 80 KiB for an examination or a run, and half a KiB for each
    level of nesting.
 
+   Allowances. blotheath_load, blotheath_load_records, blotheath_examine and blotheath_follow are told, directly behind the file, how many bytes and
+   how many records it may have: max_bytes and max_records. The desktop's allowance is 65,536 and 1,024, that of the web's preview page 16,384
+   and 64, as the constants below say. A number that is larger than the desktop's counts as the desktop's, each of the two by itself. 0 is an allowance
+   too: under 0 bytes every file that has a byte is refused, under 0 records only a file without records loads.
+   A file of more bytes than its allowance is refused by 29, whatever they are; one of more than 65,536 bytes by 1 under every allowance. Records are
+   counted as they are read, those that lie over each other too, and the one that is read decides: under 64 the 65th is refused by 29 as soon as its
+   first 16 bytes are there, whatever follows them, also in a file of 1,025 records. Where the lent table has no row for that record either, it is
+   refused by 14: with 70 rows lent a file of 100 records meets 29 under 64, with 64 rows lent 14. Under 1,024 records it is always 14.
+   A file that is accepted under one allowance gives the same answer and the same rows, in tables of the same lengths, under every allowance that is
+   nowhere smaller. An examination or a run is one of a file that loads under the allowance of its call: where the load is refused by 29, so are they.
+
    Refusals. 0 is none, and no refusal is 0.
     1  the file has more than 65,536 bytes
     2  the file has under 20 bytes, those of its header
@@ -30,8 +41,8 @@
    12  DBG: a file's start not above that of the file before, a name or a kind out of range, a packed number of more than five bytes, or a debug
        record's size that is not that of its bytes
    13  a line's position is above 4294967295
-   14  a row that is needed has no place in its lent table, or is behind the 1,024th record; in blotheath_follow also fewer rows of frames than
-       the file has records
+   14  a row that is needed has no place in its lent table, or is that of the 1,025th record where 1,024 are allowed; in blotheath_follow also
+       fewer rows of frames than the file has records
    15  the records are not one whole tree by their numbers of children
    16  in a record, an opcode above 118 or a cut instruction, behind a prefix or not, or no instruction at all
    17  an operand is not below the registers, constants, symbols or children that its record has, or a register that an instruction touches is
@@ -46,8 +57,11 @@
    25  in a record, a prefix opcode (115 to 117) is the last byte, or another prefix opcode follows it
    27  the file is no compiled pattern: its first four bytes are not RITE
    28  the file is cut short: it has fewer bytes than its header states
-   A load refuses by 1 to 14, 27 and 28, an examination by 1 to 20, 25, 27 and 28, follow by 1 to 21, 25, 27 and 28, lookups by 22, fetch by 23 and
-   24. 1, 2, 27, 28, 3 and 4 are tested in this order; 5 to 14 are met where reading forward meets them; the others stand with their calls. */
+   29  the file has more bytes than its allowance, though at most 65,536; or a record that is read is one more than its allowance, though at most
+       the 1,024th, and its lent table has a row for it
+   A load refuses by 1 to 14 and 27 to 29, an examination by 1 to 20, 25 and 27 to 29, follow by 1 to 21, 25 and 27 to 29, lookups by 22, fetch by 23
+   and 24. 1, 29 for bytes, 2, 27, 28, 3 and 4 are tested in this order; 5 to 14, and 29 for records in 14's place, are met where reading forward meets
+   them; the others stand with their calls. */
 #ifndef BLOTHEATH_H
 #define BLOTHEATH_H
 
@@ -57,6 +71,12 @@
 #ifdef __cplusplus
 extern "C" {
 #endif
+
+/* Allowances: the desktop's, which is the largest, and that of the web's preview page. */
+#define BLOTHEATH_DESKTOP_BYTES 65536
+#define BLOTHEATH_DESKTOP_RECORDS 1024
+#define BLOTHEATH_PREVIEW_BYTES 16384
+#define BLOTHEATH_PREVIEW_RECORDS 64
 
 /* The answer of a load or an examination: the refusal's number, and then every count is 0; or 0, the rows used of each table, and the visits that
    the walk over the local names (LVAR) made. The walk visits record 0 and then, of each record that it visits, as many children as its row says
@@ -84,9 +104,9 @@ typedef struct {
 #define BLOTHEATH_RECORD_WORDS 21
 #define BLOTHEATH_NO_PARENT 65535
 
-/* Loads a file into nine lent tables. Lengths are in words. What the tables hold before the call does not matter; afterwards each holds its rows
-   one after another, then zeros up to its end; after a refusal zeros throughout. Words behind the last whole row (a length that is no multiple
-   of the row's words) are no row, and are zero too.
+/* Loads a file under an allowance into nine lent tables. Lengths are in words. What the tables hold before the call does not matter; afterwards
+   each holds its rows one after another, then zeros up to its end; after a refusal zeros throughout. Words behind the last whole row (a length that
+   is no multiple of the row's words) are no row, and are zero too.
 
    Words of a row. Places count bytes from the file's first, first rows count rows of their table, and are 0 where the number is 0.
    records, 21:  size, nlocals, nregs, rlen, clen, ilen, place of the instructions, then first row and number of its handlers, pool entries,
@@ -121,8 +141,10 @@ typedef struct {
    files         n / 32 + 1                n / 11
    lines         n / 12 + 1                n / 2
    Try the first column, after 14 the second. Only a hostile file needs more: up to 1,024 records may read the same bytes as handlers, pool
-   entries and symbols of their own, so after 14 again lend more rows of those three and 1,024 records, or take 14 for the answer. */
+   entries and symbols of their own, so after 14 again lend more rows of those three and 1,024 records, or take 14 for the answer. Of records no
+   more rows are needed than are allowed, and one more where 29 is to be told from 14. */
 BlotheathLoaded blotheath_load(const uint8_t *file, size_t file_len,
+                               uint32_t max_bytes, uint32_t max_records,
                                uint32_t *records, size_t records_len,
                                uint32_t *handlers, size_t handlers_len,
                                uint32_t *pool, size_t pool_len,
@@ -163,6 +185,7 @@ typedef struct {
    zeros past the last record, so after a refusal every row is zeros. The length is in rows. Fewer rows than records hold the first ones, and that
    is no refusal. */
 BlotheathLoaded blotheath_load_records(const uint8_t *file, size_t file_len,
+                                       uint32_t max_bytes, uint32_t max_records,
                                        uint32_t *records, size_t records_len,
                                        uint32_t *handlers, size_t handlers_len,
                                        uint32_t *pool, size_t pool_len,
@@ -193,6 +216,7 @@ BlotheathLoaded blotheath_load_records(const uint8_t *file, size_t file_len,
    a+1 to a+b-1     ARRAY; to a+b: ARYPUSH; to a+c: APOST; to a+2b-1: HASH; to a+2b: HASHADD
    b+1 to b+c-1     ARRAY2 */
 BlotheathLoaded blotheath_examine(const uint8_t *file, size_t file_len,
+                                  uint32_t max_bytes, uint32_t max_records,
                                   uint32_t *records, size_t records_len,
                                   uint32_t *handlers, size_t handlers_len,
                                   uint32_t *pool, size_t pool_len,
@@ -203,7 +227,7 @@ BlotheathLoaded blotheath_examine(const uint8_t *file, size_t file_len,
                                   uint32_t *files, size_t files_len,
                                   uint32_t *lines, size_t lines_len);
 
-/* Where a run stands. refusal: 0, or one of 1 to 21, 25, 27 and 28. finished: 1 where the run is finished, and then all else is 0. Else the top
+/* Where a run stands. refusal: 0, or one of 1 to 21, 25 and 27 to 29. finished: 1 where the run is finished, and then all else is 0. Else the top
    frame's record and offset, its line where found is 1, and the number of frames. The offset is where an instruction begins, at its prefix where it
    has one. */
 typedef struct {
@@ -222,6 +246,7 @@ typedef struct {
    that is not open is go on. Behind a prefix an opcode does what it does without one. The frame table has rows of two words, record and offset: the
    frames, lowest first, then zeros. After a refusal every table, frames too, is zero throughout. */
 BlotheathFollowed blotheath_follow(const uint8_t *file, size_t file_len,
+                                   uint32_t max_bytes, uint32_t max_records,
                                    uint32_t *records, size_t records_len,
                                    uint32_t *handlers, size_t handlers_len,
                                    uint32_t *pool, size_t pool_len,

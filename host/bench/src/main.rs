@@ -9,6 +9,7 @@ mod ladder;
 mod parts;
 mod timing;
 
+use blotheath::Allowance;
 use blotheath::tables::Words;
 use original::rite::rite;
 use std::path::{Path, PathBuf};
@@ -77,13 +78,16 @@ fn ladder_of_sizes(rounds: usize) {
     }
 }
 
+/// The allowance of every call.
+const ALLOWANCE: Allowance = Allowance::DESKTOP;
+
 /// The choices that follow is timed with.
 const CHOICES: [u8; 16] = [0, 0, 2, 0, 0, 0, 1, 0, 0, 2, 0, 0, 0, 0, 4, 0];
 
 /// The tables that the host lends for a file, loaded.
 fn lent_for(file: &[u8]) -> Words {
     blotheath::tables::lend(file, |words| {
-        let loaded = blotheath::ffi::load(file, words);
+        let loaded = blotheath::ffi::load(file, ALLOWANCE, words);
         (loaded.refusal, ())
     })
     .0
@@ -109,22 +113,28 @@ fn table(files: &[Vec<u8>], rounds: usize) {
     let mut load_cleared = || {
         for (file, words) in files.iter().zip(&mut lent) {
             words.iter_mut().for_each(|table| table.fill(0));
-            timing::keep(blotheath::ffi::load(file, words));
+            timing::keep(blotheath::ffi::load(file, ALLOWANCE, words));
         }
     };
     let mut load_again = || {
         for (file, words) in files.iter().zip(&mut again) {
-            timing::keep(blotheath::ffi::load(file, words));
+            timing::keep(blotheath::ffi::load(file, ALLOWANCE, words));
         }
     };
     let mut examine = || {
         for (file, words) in files.iter().zip(&mut examined) {
-            timing::keep(blotheath::ffi::examine(file, words));
+            timing::keep(blotheath::ffi::examine(file, ALLOWANCE, words));
         }
     };
     let mut follow = || {
         for (file, words) in files.iter().zip(&mut followed) {
-            timing::keep(blotheath::ffi::follow(file, words, &mut frames, &CHOICES));
+            timing::keep(blotheath::ffi::follow(
+                file,
+                ALLOWANCE,
+                words,
+                &mut frames,
+                &CHOICES,
+            ));
         }
     };
     let mut subjects: Vec<Subject> = vec![

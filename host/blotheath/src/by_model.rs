@@ -1,5 +1,6 @@
 //! The functions of ffi.rs answered by host/model, for work without the archive.
 
+use crate::Allowance;
 use crate::answer::*;
 use crate::tables::{RECORD_WORDS, RECORDS, Words};
 use model::{Constant, Sizes};
@@ -11,6 +12,14 @@ fn take(words: &mut Words) -> Sizes {
     sizes
 }
 
+/// The model's allowance of the same numbers.
+fn of(allowance: Allowance) -> model::Allowance {
+    model::Allowance {
+        bytes: allowance.bytes,
+        records: allowance.records,
+    }
+}
+
 fn give(loaded: model::Loaded, words: &mut Words) -> BlotheathLoaded {
     *words = loaded.tables;
     BlotheathLoaded {
@@ -20,16 +29,17 @@ fn give(loaded: model::Loaded, words: &mut Words) -> BlotheathLoaded {
     }
 }
 
-pub fn load(file: &[u8], words: &mut Words) -> BlotheathLoaded {
-    give(model::load(file, &take(words)), words)
+pub fn load(file: &[u8], allowance: Allowance, words: &mut Words) -> BlotheathLoaded {
+    give(model::load(file, of(allowance), &take(words)), words)
 }
 
 pub fn load_records(
     file: &[u8],
+    allowance: Allowance,
     words: &mut Words,
     rows: &mut [BlotheathRecord],
 ) -> BlotheathLoaded {
-    let loaded = load(file, words);
+    let loaded = load(file, allowance, words);
     rows.fill(BlotheathRecord::default());
     let whole = words[RECORDS].chunks_exact(RECORD_WORDS);
     for (row, w) in rows.iter_mut().zip(whole) {
@@ -60,17 +70,18 @@ pub fn load_records(
     loaded
 }
 
-pub fn examine(file: &[u8], words: &mut Words) -> BlotheathLoaded {
-    give(model::examine(file, &take(words)), words)
+pub fn examine(file: &[u8], allowance: Allowance, words: &mut Words) -> BlotheathLoaded {
+    give(model::examine(file, of(allowance), &take(words)), words)
 }
 
 pub fn follow(
     file: &[u8],
+    allowance: Allowance,
     words: &mut Words,
     frames: &mut [u32],
     choices: &[u8],
 ) -> BlotheathFollowed {
-    let followed = model::follow(file, &take(words), frames.len(), choices);
+    let followed = model::follow(file, of(allowance), &take(words), frames.len(), choices);
     frames.copy_from_slice(&followed.frame_table);
     let (record, offset) = followed.top.unwrap_or_default();
     let loaded = give(followed.loaded, words);

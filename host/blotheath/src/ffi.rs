@@ -4,6 +4,7 @@
 
 #![allow(unsafe_code)]
 
+use crate::Allowance;
 use crate::answer::*;
 use crate::tables::{
     FILENAMES, FILES, HANDLERS, LINES, NAMES, POOL, RECORDS, STRINGS, SYMBOLS, Words,
@@ -13,6 +14,8 @@ unsafe extern "C" {
     fn blotheath_load(
         file: *const u8,
         file_len: usize,
+        max_bytes: u32,
+        max_records: u32,
         records: *mut u32,
         records_len: usize,
         handlers: *mut u32,
@@ -35,6 +38,8 @@ unsafe extern "C" {
     fn blotheath_load_records(
         file: *const u8,
         file_len: usize,
+        max_bytes: u32,
+        max_records: u32,
         records: *mut u32,
         records_len: usize,
         handlers: *mut u32,
@@ -59,6 +64,8 @@ unsafe extern "C" {
     fn blotheath_examine(
         file: *const u8,
         file_len: usize,
+        max_bytes: u32,
+        max_records: u32,
         records: *mut u32,
         records_len: usize,
         handlers: *mut u32,
@@ -81,6 +88,8 @@ unsafe extern "C" {
     fn blotheath_follow(
         file: *const u8,
         file_len: usize,
+        max_bytes: u32,
+        max_records: u32,
         records: *mut u32,
         records_len: usize,
         handlers: *mut u32,
@@ -177,8 +186,8 @@ unsafe extern "C" {
     fn blotheath_line_at(map: *const u32, map_len: usize, pos: u32) -> BlotheathLine;
 }
 
-/// Loads a file over lent tables.
-pub fn load(file: &[u8], words: &mut Words) -> BlotheathLoaded {
+/// Loads a file under an allowance, over lent tables.
+pub fn load(file: &[u8], allowance: Allowance, words: &mut Words) -> BlotheathLoaded {
     let [
         records,
         handlers,
@@ -195,6 +204,8 @@ pub fn load(file: &[u8], words: &mut Words) -> BlotheathLoaded {
         blotheath_load(
             file.as_ptr(),
             file.len(),
+            allowance.bytes,
+            allowance.records,
             records.as_mut_ptr(),
             records.len(),
             handlers.as_mut_ptr(),
@@ -217,9 +228,10 @@ pub fn load(file: &[u8], words: &mut Words) -> BlotheathLoaded {
     }
 }
 
-/// Loads a file over lent tables, and fills lent rows: those of the record table that they have place for, then rows of zeros.
+/// Loads a file under an allowance, over lent tables, and fills lent rows: those of the record table that they have place for, then rows of zeros.
 pub fn load_records(
     file: &[u8],
+    allowance: Allowance,
     words: &mut Words,
     rows: &mut [BlotheathRecord],
 ) -> BlotheathLoaded {
@@ -239,6 +251,8 @@ pub fn load_records(
         blotheath_load_records(
             file.as_ptr(),
             file.len(),
+            allowance.bytes,
+            allowance.records,
             records.as_mut_ptr(),
             records.len(),
             handlers.as_mut_ptr(),
@@ -263,8 +277,8 @@ pub fn load_records(
     }
 }
 
-/// Loads a file over lent tables and examines it.
-pub fn examine(file: &[u8], words: &mut Words) -> BlotheathLoaded {
+/// Loads a file under an allowance, over lent tables, and examines it.
+pub fn examine(file: &[u8], allowance: Allowance, words: &mut Words) -> BlotheathLoaded {
     let [
         records,
         handlers,
@@ -281,6 +295,8 @@ pub fn examine(file: &[u8], words: &mut Words) -> BlotheathLoaded {
         blotheath_examine(
             file.as_ptr(),
             file.len(),
+            allowance.bytes,
+            allowance.records,
             records.as_mut_ptr(),
             records.len(),
             handlers.as_mut_ptr(),
@@ -303,9 +319,10 @@ pub fn examine(file: &[u8], words: &mut Words) -> BlotheathLoaded {
     }
 }
 
-/// Loads and examines a file, then runs it along a list of choices.
+/// Loads and examines a file under an allowance, then runs it along a list of choices.
 pub fn follow(
     file: &[u8],
+    allowance: Allowance,
     words: &mut Words,
     frames: &mut [u32],
     choices: &[u8],
@@ -326,6 +343,8 @@ pub fn follow(
         blotheath_follow(
             file.as_ptr(),
             file.len(),
+            allowance.bytes,
+            allowance.records,
             records.as_mut_ptr(),
             records.len(),
             handlers.as_mut_ptr(),

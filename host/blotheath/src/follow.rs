@@ -1,5 +1,6 @@
 //! The run of a pattern that passes, along a list of choices.
 
+use crate::allowance::Allowance;
 use crate::ffi;
 use crate::refusal::Refusal;
 use crate::tables::{self, RECORD_LIMIT};
@@ -72,11 +73,20 @@ pub enum Standing {
     },
 }
 
-/// Examines a file and runs it along the bytes of a list of choices.
+/// Examines a file under the desktop's allowance and runs it along the bytes of a list of choices.
 pub fn follow(file: &[u8], choices: &[u8]) -> Result<Standing, Refusal> {
+    follow_within(file, Allowance::DESKTOP, choices)
+}
+
+/// Examines a file under an allowance and runs it along the bytes of a list of choices.
+pub fn follow_within(
+    file: &[u8],
+    allowance: Allowance,
+    choices: &[u8],
+) -> Result<Standing, Refusal> {
     let mut frames = vec![0; 2 * RECORD_LIMIT];
     let (_, followed) = tables::lend(file, |words| {
-        let followed = ffi::follow(file, words, &mut frames, choices);
+        let followed = ffi::follow(file, allowance, words, &mut frames, choices);
         (followed.refusal, followed)
     });
     Refusal::of(followed.refusal)?;

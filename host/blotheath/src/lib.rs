@@ -4,6 +4,7 @@
 
 #![deny(unsafe_code)]
 
+mod allowance;
 pub mod answer;
 #[cfg(not(feature = "model"))]
 pub mod ffi;
@@ -25,15 +26,16 @@ pub mod tables;
 mod tree;
 mod walk;
 
-pub use follow::{Choice, Frame, Standing, bytes_of, follow};
+pub use allowance::{Allowance, Desktop, Excess, Limit};
+pub use follow::{Choice, Frame, Standing, bytes_of, follow, follow_within};
 pub use hint::looks_like;
 pub use identity::{DOUBT, IDENTITY, Identity, PROVED};
-pub use locate::{Place, locate};
+pub use locate::{Place, locate, locate_within};
 pub use opcode::{Flow, PREFIXES, Role, flow, name as opcode_name, roles};
 pub use opcodes::Opcode;
 pub use pattern::{
     Constant, Counts, DebugFile, Entry, Handler, Pattern, Record, Sources, Span, Text, examine,
-    line_at, load,
+    examine_within, line_at, load, load_within,
 };
 pub use refusal::Refusal;
 pub use registers::Registers;
@@ -42,7 +44,7 @@ pub use step::{BadStep, Kind, Step, Steps};
 pub use tree::Tree;
 pub use walk::NameWalk;
 
-/// The longest file, in bytes.
+/// The longest file, in bytes, under any allowance.
 pub const FILE_LIMIT: usize = 65_536;
 
 /// The bytes that a pattern file begins with.

@@ -1,5 +1,6 @@
 //! A loaded pattern: its rows and the seven lookups.
 
+use crate::allowance::Allowance;
 use crate::answer::{BlotheathLoaded, NO_PARENT};
 use crate::ffi;
 use crate::refusal::Refusal;
@@ -161,22 +162,33 @@ pub struct Entry {
     pub line: u32,
 }
 
-/// Loads a file.
+/// Loads a file under the desktop's allowance.
 pub fn load(file: &[u8]) -> Result<Pattern<'_>, Refusal> {
-    answered(file, ffi::load)
+    load_within(file, Allowance::DESKTOP)
 }
 
-/// Loads a file and examines it.
+/// Loads a file under an allowance.
+pub fn load_within(file: &[u8], allowance: Allowance) -> Result<Pattern<'_>, Refusal> {
+    answered(file, allowance, ffi::load)
+}
+
+/// Loads a file under the desktop's allowance and examines it.
 pub fn examine(file: &[u8]) -> Result<Pattern<'_>, Refusal> {
-    answered(file, ffi::examine)
+    examine_within(file, Allowance::DESKTOP)
+}
+
+/// Loads a file under an allowance and examines it.
+pub fn examine_within(file: &[u8], allowance: Allowance) -> Result<Pattern<'_>, Refusal> {
+    answered(file, allowance, ffi::examine)
 }
 
 fn answered(
     file: &[u8],
-    call: impl Fn(&[u8], &mut Words) -> BlotheathLoaded,
+    allowance: Allowance,
+    call: impl Fn(&[u8], Allowance, &mut Words) -> BlotheathLoaded,
 ) -> Result<Pattern<'_>, Refusal> {
     let (words, loaded) = tables::lend(file, |words| {
-        let loaded = call(file, words);
+        let loaded = call(file, allowance, words);
         (loaded.refusal, loaded)
     });
     Refusal::of(loaded.refusal)?;

@@ -48,6 +48,7 @@ const REFUSALS: &[(u32, By, &str)] = &[
     (25, Examination, "a prefix has no opcode behind it: its record ends, or another prefix follows"),
     (27, Loading, "the file is not a compiled pattern: it does not begin with RITE"),
     (28, Loading, "the file is cut short: it has fewer bytes than its header states"),
+    (29, Loading, "the file has more bytes or more records than its allowance"),
 ];
 
 impl Refusal {
@@ -119,7 +120,7 @@ mod tests {
 
     #[test]
     fn numbers_without_a_sentence_say_so() {
-        for number in [0, 26, 29, u32::MAX] {
+        for number in [0, 26, 30, u32::MAX] {
             let refusal = Refusal(number);
             assert_eq!(refusal.sentence(), "no such refusal");
             assert!(!refusal.is_of_loading() && !refusal.is_of_examination());
@@ -140,7 +141,7 @@ mod tests {
 
     #[test]
     fn what_meets_a_number() {
-        let loading: Vec<u32> = (1..=14).chain([27, 28]).collect();
+        let loading: Vec<u32> = (1..=14).chain(27..=29).collect();
         assert_eq!(numbers(Refusal::is_of_loading), loading);
         assert_eq!(
             numbers(Refusal::is_of_examination),

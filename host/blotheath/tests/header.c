@@ -5,6 +5,8 @@
 
 #define NONE NULL, 0
 #define LENT(slice) slice, sizeof slice / sizeof *slice
+#define DESKTOP BLOTHEATH_DESKTOP_BYTES, BLOTHEATH_DESKTOP_RECORDS
+#define PREVIEW BLOTHEATH_PREVIEW_BYTES, BLOTHEATH_PREVIEW_RECORDS
 #define NO_TABLES NONE, NONE, NONE, NONE, NONE, NONE, NONE, NONE, NONE
 
 static int wrong = 0;
@@ -39,7 +41,7 @@ static uint32_t visits_of(uint16_t children) {
     memcpy(walked + END + sizeof lvar, file + END, sizeof file - END);
     walked[CHILDREN] = children >> 8;
     walked[CHILDREN + 1] = children & 255;
-    return blotheath_load(LENT(walked), LENT(records), NONE, NONE, NONE, NONE, NONE, NONE, NONE, NONE).visits;
+    return blotheath_load(LENT(walked), DESKTOP, LENT(records), NONE, NONE, NONE, NONE, NONE, NONE, NONE, NONE).visits;
 }
 
 /* What an examination of the file answers with ADD of a register in the place of LOADNIL. */
@@ -49,7 +51,7 @@ static uint32_t examined_adding(uint8_t a) {
     memcpy(changed, file, sizeof changed);
     changed[CODE] = 69;
     changed[CODE + 1] = a;
-    return blotheath_examine(LENT(changed), LENT(records), NONE, NONE, NONE, NONE, NONE, NONE, NONE, NONE).refusal;
+    return blotheath_examine(LENT(changed), DESKTOP, LENT(records), NONE, NONE, NONE, NONE, NONE, NONE, NONE, NONE).refusal;
 }
 
 /* The file with two constants: the text "a\0b", and 123456789012 in eight bytes. */
@@ -101,13 +103,13 @@ static uint32_t examined_with(size_t offset, uint8_t byte) {
     uint32_t records[BLOTHEATH_RECORD_WORDS];
     memcpy(changed, prefixed, sizeof changed);
     changed[PREFIXED_CODE + offset] = byte;
-    return blotheath_examine(LENT(changed), LENT(records), NONE, NONE, NONE, NONE, NONE, NONE, NONE, NONE).refusal;
+    return blotheath_examine(LENT(changed), DESKTOP, LENT(records), NONE, NONE, NONE, NONE, NONE, NONE, NONE, NONE).refusal;
 }
 
 /* Where a run of the record stands after so many choices. */
 static uint32_t gone_to(size_t choices) {
     uint32_t records[BLOTHEATH_RECORD_WORDS], frames[2];
-    BlotheathFollowed at = blotheath_follow(LENT(prefixed), LENT(records), NONE, NONE, NONE, NONE, NONE, NONE, NONE, NONE,
+    BlotheathFollowed at = blotheath_follow(LENT(prefixed), DESKTOP, LENT(records), NONE, NONE, NONE, NONE, NONE, NONE, NONE, NONE,
                                             LENT(frames), go_on, choices);
     return at.refusal == 0 ? at.offset : UINT32_MAX;
 }
@@ -133,14 +135,14 @@ static void hold_parent(uint16_t children, uint32_t depth, uint32_t parent, cons
     memcpy(changed, definition, sizeof changed);
     changed[DEFINITION_CHILDREN] = children >> 8;
     changed[DEFINITION_CHILDREN + 1] = children & 255;
-    BlotheathLoaded loaded = blotheath_load_records(LENT(changed), LENT(records), NONE, NONE, LENT(symbols), NONE, NONE, NONE, NONE, NONE,
+    BlotheathLoaded loaded = blotheath_load_records(LENT(changed), DESKTOP, LENT(records), NONE, NONE, LENT(symbols), NONE, NONE, NONE, NONE, NONE,
                                                     LENT(rows));
     hold(loaded.refusal == 0 && loaded.records == 2, "two records load");
     hold(rows[0].depth == 0 && rows[0].parent == BLOTHEATH_NO_PARENT, "record 0 has no parent");
     hold(rows[1].depth == depth && rows[1].parent == parent, what);
     hold(second[BLOTHEATH_RECORD_WORDS - 2] == depth && second[BLOTHEATH_RECORD_WORDS - 1] == parent, "the words say the same");
     hold(rows[2].depth == 0 && rows[2].parent == 0, "a row past the last record is zeros");
-    hold(blotheath_load_records(LENT(changed), NO_TABLES, LENT(rows)).refusal == 14, "without tables it is refused");
+    hold(blotheath_load_records(LENT(changed), DESKTOP, NO_TABLES, LENT(rows)).refusal == 14, "without tables it is refused");
     hold(rows[1].depth == 0 && rows[1].parent == 0, "a refused load leaves zeros");
 }
 
@@ -151,29 +153,66 @@ static void hold_parents(void) {
     hold_parent(0, 0, BLOTHEATH_NO_PARENT, "a record that is never reached");
 }
 
+/* What is lent for the two records beside so many rows of theirs: one symbol. */
+#define LENT_ROWS records, rows * BLOTHEATH_RECORD_WORDS, NONE, NONE, LENT(symbols), NONE, NONE, NONE, NONE, NONE
+
+/* What the four calls answer for the two records under an allowance, with so many rows of records lent, at least one. */
+static uint32_t answered(uint32_t max_bytes, uint32_t max_records, size_t rows) {
+    uint32_t records[3 * BLOTHEATH_RECORD_WORDS], symbols[2], frames[2 * 2];
+    BlotheathRecord structs[2];
+    uint32_t followed = blotheath_follow(LENT(definition), max_bytes, max_records, LENT_ROWS, LENT(frames), LENT(enter)).refusal;
+    uint32_t filled = blotheath_load_records(LENT(definition), max_bytes, max_records, LENT_ROWS, LENT(structs)).refusal;
+    uint32_t examined = blotheath_examine(LENT(definition), max_bytes, max_records, LENT_ROWS).refusal;
+    uint32_t loaded = blotheath_load(LENT(definition), max_bytes, max_records, LENT_ROWS).refusal;
+    hold(followed == loaded && filled == loaded && examined == loaded, "the four calls answer alike under an allowance");
+    hold((records[0] != 0) == (loaded == 0), "after a refusal by the allowance the tables are zero");
+    hold((structs[0].size != 0) == (loaded == 0), "the rows too");
+    hold((frames[1] != 0) == (loaded == 0), "the frames too");
+    return loaded;
+}
+
+static void hold_allowances(void) {
+    static const uint32_t most = UINT32_MAX, length = sizeof definition;
+    uint32_t records[2 * BLOTHEATH_RECORD_WORDS], again[2 * BLOTHEATH_RECORD_WORDS], symbols[2];
+    hold(BLOTHEATH_DESKTOP_BYTES == 65536 && BLOTHEATH_DESKTOP_RECORDS == 1024, "the desktop's allowance");
+    hold(BLOTHEATH_PREVIEW_BYTES == 16384 && BLOTHEATH_PREVIEW_RECORDS == 64, "the preview's allowance");
+    hold(answered(DESKTOP, 2) == 0 && answered(PREVIEW, 2) == 0, "both allowances have the file");
+    hold(answered(length, 2, 2) == 0, "as many bytes and records as there are");
+    hold(answered(most, 2, 2) == 0 && answered(length, most, 2) == 0, "a larger number counts as the desktop's");
+    hold(answered(length - 1, 2, 2) == 29 && answered(0, most, 2) == 29, "one byte too many, and no byte allowed");
+    hold(answered(length, 1, 2) == 29 && answered(most, 0, 1) == 29, "one record too many, and no record allowed");
+    hold(answered(length, 1, 1) == 14, "a table without a row for that record either");
+    hold(answered(length - 1, 1, 1) == 29, "bytes are tested first");
+    hold(blotheath_load(LENT(file), sizeof file - 1, most, NO_TABLES).refusal == 29, "bytes need no table");
+    hold(blotheath_load(NONE, 0, 0, NO_TABLES).refusal == 2, "a file without bytes is within every allowance");
+    blotheath_load(LENT(definition), DESKTOP, LENT(records), NONE, NONE, LENT(symbols), NONE, NONE, NONE, NONE, NONE);
+    blotheath_load(LENT(definition), PREVIEW, LENT(again), NONE, NONE, LENT(symbols), NONE, NONE, NONE, NONE, NONE);
+    hold(memcmp(records, again, sizeof records) == 0, "the same rows under both");
+}
+
 int main(void) {
     uint32_t records[2 * BLOTHEATH_RECORD_WORDS], pool[6], symbols[2], frames[2 * 2];
     BlotheathRecord row[1];
     uint8_t other[sizeof file] = {0}, missing[sizeof definition];
 
-    hold(blotheath_load(NONE, NO_TABLES).refusal == 2, "a file without bytes is refused by 2");
-    hold(blotheath_load(LENT(file), NO_TABLES).refusal == 14, "without tables a record's row has no place");
-    hold(blotheath_load_records(NONE, NO_TABLES, NONE).refusal == 2, "no rows are filled");
-    hold(blotheath_examine(NONE, NO_TABLES).refusal == 2, "the same examined");
-    hold(blotheath_follow(NONE, NO_TABLES, NONE, NONE).refusal == 2, "the same followed");
-    hold(blotheath_load(LENT(other), NO_TABLES).refusal == 27, "a file that does not begin with RITE");
-    hold(blotheath_load(file, sizeof file - 1, NO_TABLES).refusal == 28, "a file that is cut short");
+    hold(blotheath_load(NONE, DESKTOP, NO_TABLES).refusal == 2, "a file without bytes is refused by 2");
+    hold(blotheath_load(LENT(file), DESKTOP, NO_TABLES).refusal == 14, "without tables a record's row has no place");
+    hold(blotheath_load_records(NONE, DESKTOP, NO_TABLES, NONE).refusal == 2, "no rows are filled");
+    hold(blotheath_examine(NONE, DESKTOP, NO_TABLES).refusal == 2, "the same examined");
+    hold(blotheath_follow(NONE, DESKTOP, NO_TABLES, NONE, NONE).refusal == 2, "the same followed");
+    hold(blotheath_load(LENT(other), DESKTOP, NO_TABLES).refusal == 27, "a file that does not begin with RITE");
+    hold(blotheath_load(file, sizeof file - 1, DESKTOP, NO_TABLES).refusal == 28, "a file that is cut short");
 
     BlotheathLoaded loaded =
-        blotheath_load_records(LENT(file), LENT(records), NONE, NONE, NONE, NONE, NONE, NONE, NONE, NONE, LENT(row));
+        blotheath_load_records(LENT(file), DESKTOP, LENT(records), NONE, NONE, NONE, NONE, NONE, NONE, NONE, NONE, LENT(row));
     hold(loaded.refusal == 0 && loaded.records == 1, "only records need rows");
     hold(loaded.visits == 0, "without LVAR there is no visit");
     hold(visits_of(0) == 1 && visits_of(3) == 4 && visits_of(65535) == 65536, "a visit of record 0, and one for each child");
     hold(row[0].size == 24 && row[0].ilen == 4 && row[0].nlines == 0, "the row is the record's");
-    BlotheathFollowed at = blotheath_follow(LENT(file), LENT(records), NONE, NONE, NONE, NONE, NONE, NONE, NONE, NONE,
+    BlotheathFollowed at = blotheath_follow(LENT(file), DESKTOP, LENT(records), NONE, NONE, NONE, NONE, NONE, NONE, NONE, NONE,
                                             LENT(frames), NONE);
     hold(at.refusal == 0 && at.finished == 0 && at.frames == 1 && at.offset == 0, "without choices a run stands at its start");
-    hold(blotheath_examine(LENT(file), LENT(records), NONE, NONE, NONE, NONE, NONE, NONE, NONE, NONE).refusal == 0, "it passes");
+    hold(blotheath_examine(LENT(file), DESKTOP, LENT(records), NONE, NONE, NONE, NONE, NONE, NONE, NONE, NONE).refusal == 0, "it passes");
 
     BlotheathText code = blotheath_instructions(LENT(file), LENT(records), 0);
     hold(code.refusal == 0 && code.place == 48 && code.length == 4, "the instructions are found");
@@ -188,7 +227,7 @@ int main(void) {
     BlotheathLookedLine line = blotheath_line(LENT(records), NONE, 0, 0);
     hold(line.refusal == 0 && line.found == 0, "a record without lines");
 
-    hold(blotheath_load(LENT(constants), LENT(records), NONE, LENT(pool), NONE, NONE, NONE, NONE, NONE, NONE).refusal == 0,
+    hold(blotheath_load(LENT(constants), DESKTOP, LENT(records), NONE, LENT(pool), NONE, NONE, NONE, NONE, NONE, NONE).refusal == 0,
          "a text with a zero byte inside loads");
     BlotheathConstant text = blotheath_pool(LENT(constants), LENT(records), LENT(pool), 0, 0);
     hold(text.refusal == 0 && text.kind == 0 && text.length == 3 && memcmp(constants + text.place, "a\0b", 3) == 0,
@@ -196,13 +235,13 @@ int main(void) {
     BlotheathConstant number = blotheath_pool(LENT(constants), LENT(records), LENT(pool), 0, 1);
     hold(number.refusal == 0 && number.kind == 1 && number.integer == INT64_C(123456789012), "eight bytes, high byte first");
 
-    at = blotheath_follow(LENT(definition), LENT(records), NONE, NONE, LENT(symbols), NONE, NONE, NONE, NONE, NONE,
+    at = blotheath_follow(LENT(definition), DESKTOP, LENT(records), NONE, NONE, LENT(symbols), NONE, NONE, NONE, NONE, NONE,
                           LENT(frames), LENT(enter));
     hold(at.refusal == 0 && at.frames == 2 && at.record == 1 && at.offset == 0, "the child of TDEF is entered");
     hold(frames[0] == 0 && frames[1] == 4, "the frame below stands behind TDEF");
     memcpy(missing, definition, sizeof missing);
     missing[CHILD] = 1;
-    hold(blotheath_examine(LENT(missing), LENT(records), NONE, NONE, LENT(symbols), NONE, NONE, NONE, NONE, NONE).refusal == 17,
+    hold(blotheath_examine(LENT(missing), DESKTOP, LENT(records), NONE, NONE, LENT(symbols), NONE, NONE, NONE, NONE, NONE).refusal == 17,
          "a third operand that names no child");
 
     hold(examined_adding(0) == 0, "ADD touches the two registers that there are");
@@ -210,6 +249,7 @@ int main(void) {
 
     hold_prefixes();
     hold_parents();
+    hold_allowances();
     hold(blotheath_fetch(NONE).refusal == 24, "an instruction of no bytes");
     hold(blotheath_fetch(file + code.place, code.length).a == 1, "an instruction");
     hold(blotheath_line_at(NONE, 0).found == 0, "a map without entries");

@@ -4,7 +4,7 @@ mod common;
 
 use blotheath::answer::NO_PARENT;
 use blotheath::tables::{RECORD_WORDS, ROW_WORDS, rows, usual};
-use blotheath::{LOAD_STACK, Opcode, Refusal, STACK};
+use blotheath::{Allowance, LOAD_STACK, Opcode, Refusal, STACK};
 use common::Folder;
 use std::fs;
 use std::path::{Path, PathBuf};
@@ -77,6 +77,42 @@ fn the_rows_to_lend_are_those_that_the_host_lends() {
             );
         }
     }
+}
+
+#[test]
+fn the_allowances_are_those_of_the_host() {
+    let header = header();
+    for (name, allowance) in [
+        ("DESKTOP", Allowance::DESKTOP),
+        ("PREVIEW", Allowance::PREVIEW),
+    ] {
+        for (of, number) in [("BYTES", allowance.bytes), ("RECORDS", allowance.records)] {
+            let line = format!("#define BLOTHEATH_{name}_{of} {number}\n");
+            assert!(header.contains(&line), "{line}");
+        }
+    }
+}
+
+/// The four calls that read a whole file take an allowance directly behind it, and no other call takes one.
+#[test]
+fn the_allowance_stands_behind_the_file() {
+    let header = header();
+    let (_, declared) = header.split_once("extern \"C\"").unwrap();
+    let mut taking = Vec::new();
+    for call in declared.split("\nBlotheath").skip(1) {
+        let (_, call) = call.split_once(" blotheath_").unwrap();
+        let (name, rest) = call.split_once('(').unwrap();
+        let (parameters, _) = rest.split_once(");").unwrap();
+        let words: Vec<&str> = parameters.split_whitespace().collect();
+        let start =
+            "const uint8_t *file, size_t file_len, uint32_t max_bytes, uint32_t max_records,";
+        if words.join(" ").starts_with(start) {
+            taking.push(name);
+        } else {
+            assert!(!parameters.contains("max_"), "{name}");
+        }
+    }
+    assert_eq!(taking, ["load", "load_records", "examine", "follow"]);
 }
 
 /// The header's table of registers has the opcodes that touch more than their operands name, each once.

@@ -307,7 +307,7 @@ fn a_drawing_is_told_as_one() {
     );
     assert!(page.contains("<mark>89</mark> 50 4e 47 "));
     assert!(page.contains("Byte 0, 89, is marked"));
-    assert!(page.contains("<td class=\"number\">1 to 14, 27, 28</td>"));
+    assert!(page.contains("<td class=\"number\">1 to 14, 27 to 29</td>"));
     assert!(!page.contains("<h2>Steps</h2>") && !page.contains("href=\"#"));
     let style = between(&page, "<style>", "</style>");
     assert!(style.contains("@top-right { content: \"refused\\20 by\\20 27\"; }"));

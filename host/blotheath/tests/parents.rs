@@ -4,7 +4,7 @@ mod common;
 
 use blotheath::answer::{BlotheathRecord, NO_PARENT};
 use blotheath::tables::{RECORD_WORDS, RECORDS, rows, zeros};
-use blotheath::{Tree, examine, ffi, load};
+use blotheath::{Allowance, Tree, examine, ffi, load};
 use common::build::{self, BLOCK, STOP};
 use common::json::{Value, parse};
 use common::{Folder, Numbers, Ran, damaged, files, run, sample, sample_bytes};
@@ -153,7 +153,7 @@ fn structs_say_what_the_words_say() {
         let mut words = zeros(rows(file.len(), 1));
         let mut structs = vec![BlotheathRecord::default(); 5];
         assert_eq!(
-            ffi::load_records(&file, &mut words, &mut structs).refusal,
+            ffi::load_records(&file, Allowance::DESKTOP, &mut words, &mut structs).refusal,
             0
         );
         let lines = words[RECORDS].chunks_exact(RECORD_WORDS);
@@ -181,15 +181,18 @@ fn a_refused_load_leaves_zeros() {
         3
     ];
     assert_ne!(
-        ffi::load_records(&file, &mut words, &mut structs).refusal,
+        ffi::load_records(&file, Allowance::DESKTOP, &mut words, &mut structs).refusal,
         0
     );
     assert!(structs.iter().all(|row| (row.depth, row.parent) == (0, 0)));
     assert!(words.iter().flatten().all(|word| *word == 0));
     // Examination refuses what load loads.
     let file = tree(&[1, 0, 0], false);
-    assert_eq!(ffi::load(&file, &mut words).refusal, 0);
-    assert_eq!(ffi::examine(&file, &mut words).refusal, 15);
+    assert_eq!(ffi::load(&file, Allowance::DESKTOP, &mut words).refusal, 0);
+    assert_eq!(
+        ffi::examine(&file, Allowance::DESKTOP, &mut words).refusal,
+        15
+    );
     assert!(words.iter().flatten().all(|word| *word == 0));
 }
 

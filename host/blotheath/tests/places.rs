@@ -2,7 +2,7 @@
 
 mod common;
 
-use blotheath::{FILE_LIMIT, Refusal, load, locate};
+use blotheath::{Allowance, FILE_LIMIT, Refusal, load, load_within, locate_within};
 use common::json::{Value, parse};
 use common::{
     Folder, Numbers, build, damaged, files, refused, run, run_with, sample_bytes, steers,
@@ -487,6 +487,18 @@ fn shuffled(numbers: &mut Numbers) -> Vec<u8> {
     build::file(&chosen)
 }
 
+/// The desktop's allowance, or one near what a file has.
+fn near(file: &[u8], numbers: &mut Numbers) -> Allowance {
+    let mut allowance = Allowance::DESKTOP;
+    match numbers.below(6) {
+        0 => allowance.bytes = (file.len() + 1).saturating_sub(numbers.below(4)) as u32,
+        1 => allowance.records = numbers.below(8) as u32,
+        2 => allowance = Allowance::PREVIEW,
+        _ => {}
+    }
+    allowance
+}
+
 /// Every refusal of loading has a place in the file or at its end, and none by another number has one there.
 #[test]
 fn every_file_that_does_not_load_has_a_place() {
@@ -506,19 +518,22 @@ fn every_file_that_does_not_load_has_a_place() {
             2 => shuffled(&mut numbers),
             _ => changed(&rich(), &mut numbers),
         };
-        let model = model::read(&file, [1 << 20; 9]).end;
-        let Err(refusal) = load(&file) else {
+        let allowance = near(&file, &mut numbers);
+        let Allowance { bytes, records } = allowance;
+        let model = model::read(&file, model::Allowance { bytes, records }, [1 << 20; 9]).end;
+        let Err(refusal) = load_within(&file, allowance) else {
             assert_eq!(model, Ok(()));
             continue;
         };
         assert_eq!(model, Err(refusal.number()));
         found.insert(refusal);
-        let place = locate(&file, None, refusal);
+        let located = |refusal| locate_within(&file, allowance, None, refusal);
+        let place = located(refusal);
         let place = place.unwrap_or_else(|| panic!("{refusal} has no place in {file:?}"));
         assert!(place.byte.unwrap() as usize <= file.len(), "{place:?}");
         assert!(!steers(&place.what), "{place:?}");
         let mut others = Refusal::all().filter(|other| *other != refusal);
-        assert!(others.all(|other| locate(&file, None, other).is_none()));
+        assert!(others.all(|other| located(other).is_none()));
     }
     for refusal in Refusal::all().filter(|one| one.is_of_loading()) {
         assert!(found.contains(&refusal), "no file is {refusal}");

@@ -3,8 +3,8 @@
 mod common;
 
 use blotheath::answer::BlotheathRecord;
-use blotheath::ffi;
 use blotheath::tables::{self, RECORD_WORDS, RECORDS, Words};
+use blotheath::{Allowance, ffi};
 use common::{Numbers, build, damaged, files, sample_bytes};
 use std::collections::BTreeSet;
 use std::fs;
@@ -56,9 +56,9 @@ fn garbage(file: &[u8], overlap: usize, rows: usize) -> (Words, Vec<BlotheathRec
 /// Loads a file with so many lent rows, and holds rows, tables and answer against a load without rows. Answers the refusal's number.
 fn check(file: &[u8], overlap: usize, lent: usize) -> u32 {
     let (mut tables, mut rows) = garbage(file, overlap, lent);
-    let answer = ffi::load_records(file, &mut tables, &mut rows);
+    let answer = ffi::load_records(file, Allowance::DESKTOP, &mut tables, &mut rows);
     let (mut expected, _) = garbage(file, overlap, 0);
-    assert_eq!(answer, ffi::load(file, &mut expected));
+    assert_eq!(answer, ffi::load(file, Allowance::DESKTOP, &mut expected));
     assert_eq!(tables, expected);
     assert_eq!(rows.len(), lent);
     let mut whole = tables[RECORDS].chunks_exact(RECORD_WORDS);
@@ -122,7 +122,7 @@ fn rows_behind_the_last_whole_row_are_zeros() {
     for length in 0..120 {
         let (mut tables, mut rows) = garbage(&file, 1, 8);
         tables[RECORDS].resize(length, 9);
-        let answer = ffi::load_records(&file, &mut tables, &mut rows);
+        let answer = ffi::load_records(&file, Allowance::DESKTOP, &mut tables, &mut rows);
         let whole = length / RECORD_WORDS;
         assert!(rows.iter().skip(whole).all(|row| words(row) == ZEROS));
         if answer.refusal != 0 {

@@ -5,7 +5,7 @@
 mod common;
 
 use blotheath::tables::{self, RECORD_LIMIT, Words};
-use blotheath::{LOAD_STACK, STACK, ffi};
+use blotheath::{Allowance, LOAD_STACK, STACK, ffi};
 use common::{build, run_in_stack};
 use std::thread;
 
@@ -32,11 +32,13 @@ fn in_stack<T: Send>(bytes: usize, call: impl FnOnce() -> T + Send) -> T {
 fn loads_in_their_stack() {
     for file in chains() {
         let mut words = lent(&file);
-        let answer = in_stack(LOAD_STACK, || ffi::load(&file, &mut words));
+        let answer = in_stack(LOAD_STACK, || {
+            ffi::load(&file, Allowance::DESKTOP, &mut words)
+        });
         assert_eq!((answer.refusal, answer.rows[0]), (0, 1_024));
         let mut rows = vec![Default::default(); RECORD_LIMIT];
         let again = in_stack(LOAD_STACK, || {
-            ffi::load_records(&file, &mut words, &mut rows)
+            ffi::load_records(&file, Allowance::DESKTOP, &mut words, &mut rows)
         });
         assert_eq!(again, answer);
     }
@@ -46,7 +48,9 @@ fn loads_in_their_stack() {
 fn examinations_in_their_stack() {
     for file in chains() {
         let mut words = lent(&file);
-        let answer = in_stack(STACK, || ffi::examine(&file, &mut words));
+        let answer = in_stack(STACK, || {
+            ffi::examine(&file, Allowance::DESKTOP, &mut words)
+        });
         assert_eq!((answer.refusal, answer.rows[0]), (0, 1_024));
     }
 }
@@ -59,7 +63,7 @@ fn runs_in_their_stack() {
         let mut words = lent(&file);
         let mut frames = vec![0; 2 * RECORD_LIMIT];
         let answer = in_stack(STACK, || {
-            ffi::follow(&file, &mut words, &mut frames, &choices)
+            ffi::follow(&file, Allowance::DESKTOP, &mut words, &mut frames, &choices)
         });
         assert_eq!((answer.refusal, answer.frames), (0, 1_024));
     }

@@ -3,7 +3,7 @@
 mod common;
 
 use blotheath::tables::{rows, usual, zeros};
-use blotheath::{NameWalk, examine, ffi, load};
+use blotheath::{Allowance, NameWalk, examine, ffi, load};
 use common::build::{self, STOP};
 use common::json::parse;
 use common::{Folder, Ran, files, run};
@@ -110,7 +110,7 @@ fn the_farthest_walk_takes_no_time() {
     let mut least = Duration::MAX;
     for _ in 0..if cfg!(feature = "model") { 1 } else { 20 } {
         let start = Instant::now();
-        let loaded = ffi::load(&file, &mut words);
+        let loaded = ffi::load(&file, Allowance::DESKTOP, &mut words);
         least = least.min(start.elapsed());
         assert_eq!(loaded.refusal, 0);
         assert_eq!(loaded.visits, 67_107_841);
@@ -129,13 +129,13 @@ fn a_refused_load_has_no_visits() {
     let end = file.len() - 1;
     file[end] = 255;
     let mut words = zeros(usual(file.len()));
-    let loaded = ffi::load(&file, &mut words);
+    let loaded = ffi::load(&file, Allowance::DESKTOP, &mut words);
     assert_eq!((loaded.refusal, loaded.visits), (7, 0));
     assert_eq!(load(&tree(&[0])).unwrap().counts().visits, 1);
     // Examination refuses what load loads.
     let file = tree(&[1]);
-    assert_eq!(ffi::load(&file, &mut words).visits, 2);
-    let examined = ffi::examine(&file, &mut words);
+    assert_eq!(ffi::load(&file, Allowance::DESKTOP, &mut words).visits, 2);
+    let examined = ffi::examine(&file, Allowance::DESKTOP, &mut words);
     assert_eq!((examined.refusal, examined.visits), (15, 0));
 }
 

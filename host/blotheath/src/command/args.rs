@@ -1,6 +1,7 @@
 //! The words of the command line.
 
 use super::text;
+use blotheath::Allowance;
 use std::ffi::{OsStr, OsString};
 use std::os::unix::ffi::OsStrExt;
 use std::path::PathBuf;
@@ -13,28 +14,26 @@ pub enum Command {
     Version,
     Examine {
         paths: Vec<PathBuf>,
+        allowance: Allowance,
         json: bool,
     },
     Load {
         path: PathBuf,
+        allowance: Allowance,
         json: bool,
         all: bool,
     },
     Steps {
         path: PathBuf,
+        allowance: Allowance,
         source: Option<PathBuf>,
         json: bool,
         all: bool,
     },
-    Follow {
-        path: PathBuf,
-        choices: Vec<String>,
-        source: Option<PathBuf>,
-        json: bool,
-        each: bool,
-    },
+    Follow(Follow),
     Report {
         path: PathBuf,
+        allowance: Allowance,
         output: Option<PathBuf>,
         source: Option<PathBuf>,
         force: bool,
@@ -42,6 +41,17 @@ pub enum Command {
     Opcodes {
         json: bool,
     },
+}
+
+/// A run along choices.
+#[derive(Debug, PartialEq, Eq)]
+pub struct Follow {
+    pub path: PathBuf,
+    pub allowance: Allowance,
+    pub choices: Vec<String>,
+    pub source: Option<PathBuf>,
+    pub json: bool,
+    pub each: bool,
 }
 
 /// The words behind a command, sorted into paths and options.
@@ -53,22 +63,40 @@ struct Words {
     each: bool,
     force: bool,
     help: bool,
+    preview: bool,
+    max_bytes: Option<u32>,
+    max_records: Option<u32>,
     output: Option<PathBuf>,
     source: Option<PathBuf>,
 }
 
+impl Words {
+    /// The preview's allowance or the desktop's; a number that is given stands in the place of its own.
+    fn allowance(&self) -> Allowance {
+        let start = match self.preview {
+            true => Allowance::PREVIEW,
+            false => Allowance::DESKTOP,
+        };
+        Allowance {
+            bytes: self.max_bytes.unwrap_or(start.bytes),
+            records: self.max_records.unwrap_or(start.records),
+        }
+    }
+}
+
 /// The options that each command has.
+#[rustfmt::skip]
 const OPTIONS: [(&str, &[&str]); 6] = [
-    ("examine", &["--json"]),
-    ("load", &["--json", "--all"]),
-    ("steps", &["--json", "--all", "--source"]),
-    ("follow", &["--json", "--each", "--source"]),
-    ("report", &["-o", "--output", "--source", "--force"]),
+    ("examine", &["--json", "--preview", "--max-bytes", "--max-records"]),
+    ("load", &["--json", "--all", "--preview", "--max-bytes", "--max-records"]),
+    ("steps", &["--json", "--all", "--source", "--preview", "--max-bytes", "--max-records"]),
+    ("follow", &["--json", "--each", "--source", "--preview", "--max-bytes", "--max-records"]),
+    ("report", &["-o", "--output", "--source", "--force", "--preview", "--max-bytes", "--max-records"]),
     ("opcodes", &["--json"]),
 ];
 
 /// The options that have a value behind them.
-const VALUED: [&str; 3] = ["-o", "--output", "--source"];
+const VALUED: [&str; 5] = ["-o", "--output", "--source", "--max-bytes", "--max-records"];
 
 /// What stands in place of a command.
 const GENERAL: [&str; 5] = ["help", "--help", "-h", "--version", "-V"];
@@ -207,21 +235,40 @@ fn option<'a>(
             "--json" => words.json = true,
             "--all" => words.all = true,
             "--each" => words.each = true,
+            "--preview" => words.preview = true,
             _ => words.force = true,
         }
         return Ok(());
     }
     let value = value.or_else(|| rest.next().map(OsString::as_os_str));
     let value = value.filter(|value| !value.is_empty());
-    let value = Some(PathBuf::from(value.ok_or(format!("{name} has no value"))?));
+    let value = value.ok_or(format!("{name} has no value"))?;
     match name {
-        "--source" => words.source = value,
-        _ => words.output = value,
+        "--max-bytes" => words.max_bytes = Some(number(name, value)?),
+        "--max-records" => words.max_records = Some(number(name, value)?),
+        "--source" => words.source = Some(value.into()),
+        _ => words.output = Some(value.into()),
     }
     Ok(())
 }
 
+/// The number that digits say; one that passes 32 bits is the largest of them.
+fn number(name: &str, value: &OsStr) -> Result<u32, String> {
+    let digits = value.as_bytes();
+    if !digits.iter().all(u8::is_ascii_digit) {
+        let value = text::word(&value.to_string_lossy());
+        return Err(format!(
+            "{name} takes a whole number, in digits alone; {value} is none"
+        ));
+    }
+    let digits = digits.iter().map(|digit| u32::from(digit - b'0'));
+    Ok(digits.fold(0, |number: u32, digit| {
+        number.saturating_mul(10).saturating_add(digit)
+    }))
+}
+
 fn build(name: &str, words: Words) -> Result<Command, String> {
+    let allowance = words.allowance();
     let mut plain = words.plain.into_iter();
     if name == "opcodes" {
         return match plain.next() {
@@ -238,28 +285,37 @@ fn build(name: &str, words: Words) -> Result<Command, String> {
             let paths = std::iter::once(path).chain(plain.by_ref().map(PathBuf::from));
             Command::Examine {
                 paths: paths.collect(),
+                allowance,
                 json,
             }
         }
-        "load" => Command::Load { path, json, all },
+        "load" => Command::Load {
+            path,
+            allowance,
+            json,
+            all,
+        },
         "steps" => Command::Steps {
             path,
+            allowance,
             source: words.source,
             json,
             all,
         },
         "follow" => {
             let choices = plain.by_ref().map(|word| word.to_string_lossy().into());
-            Command::Follow {
+            Command::Follow(Follow {
                 path,
+                allowance,
                 choices: choices.collect(),
                 source: words.source,
                 json,
                 each,
-            }
+            })
         }
         _ => Command::Report {
             path,
+            allowance,
             output: words.output,
             source: words.source,
             force: words.force,
@@ -289,18 +345,21 @@ mod tests {
         assert_eq!(parse("load -h"), Ok(Command::Help(Some("load".into()))));
         let load = Command::Load {
             path: path.clone(),
+            allowance: Allowance::DESKTOP,
             json: true,
             all: false,
         };
         assert_eq!(parse("load --json a"), Ok(load));
         let examine = Command::Examine {
             paths: vec!["-".into(), "--json".into()],
+            allowance: Allowance::DESKTOP,
             json: false,
         };
         assert_eq!(parse("examine - -- --json"), Ok(examine));
         let report = || {
             Ok(Command::Report {
                 path: path.clone(),
+                allowance: Allowance::DESKTOP,
                 output: Some("b".into()),
                 source: Some("c=d".into()),
                 force: true,
@@ -318,6 +377,56 @@ mod tests {
         }
     }
 
+    /// The allowance that options of `load` say.
+    fn allowed(options: &str) -> Result<(u32, u32), String> {
+        match parse(&format!("load a {options}"))? {
+            Command::Load { allowance, .. } => Ok((allowance.bytes, allowance.records)),
+            other => panic!("{other:?}"),
+        }
+    }
+
+    #[test]
+    fn allowances() {
+        for (options, right) in [
+            ("", (65_536, 1_024)),
+            ("--preview", (16_384, 64)),
+            ("--max-bytes 5", (5, 1_024)),
+            ("--max-records=0", (65_536, 0)),
+            ("--max-bytes=7 --max-records 3", (7, 3)),
+            ("--preview --max-records 100", (16_384, 100)),
+            ("--max-bytes 32768 --preview", (32_768, 64)),
+            ("--max-bytes 4 --max-bytes 0009", (9, 1_024)),
+            ("--max-bytes 4294967295", (u32::MAX, 1_024)),
+            ("--max-bytes 4294967296", (u32::MAX, 1_024)),
+            ("--max-records 4294967360", (65_536, u32::MAX)),
+            ("--max-bytes 18446744073709551621", (u32::MAX, 1_024)),
+            (
+                "--max-records 999999999999999999999999999999999999999999",
+                (65_536, u32::MAX),
+            ),
+        ] {
+            assert_eq!(allowed(options), Ok(right), "{options}");
+        }
+        for value in [
+            "x", "-1", "+1", "1.5", "16,384", "16_384", "0x10", "١", "1e3",
+        ] {
+            for option in ["--max-bytes", "--max-records"] {
+                let fault = allowed(&format!("{option} {value}")).unwrap_err();
+                let told =
+                    format!("{option} takes a whole number, in digits alone; \"{value}\" is none");
+                assert_eq!(fault, told);
+            }
+        }
+        for (options, told) in [
+            ("--max-bytes", "--max-bytes has no value"),
+            ("--max-records=", "--max-records has no value"),
+            ("--preview=64", "--preview takes no value"),
+        ] {
+            assert_eq!(allowed(options), Err(told.to_owned()));
+        }
+        assert!(parse("opcodes --preview").is_err());
+    }
+
     #[test]
     fn near_words() {
         for (line, hint) in [
@@ -330,6 +439,8 @@ mod tests {
             ("load --jsn a", "; did you mean --json?"),
             ("report a --ouput=b", "; did you mean --output?"),
             ("follow a --eahc", "; did you mean --each?"),
+            ("load a --max-byte=5", "; did you mean --max-bytes?"),
+            ("examine a --previw", "; did you mean --preview?"),
         ] {
             let fault = parse(line).unwrap_err();
             assert!(fault.ends_with(hint), "{line}: {fault}");

@@ -1,11 +1,13 @@
 //! `blotheath examine`: a verdict for each file.
 
-use super::input::{self, Found};
+use super::allowance;
+use super::input::{self, Found, Input};
 use super::json::Json;
 use super::style::Style;
 use super::text::{self, counted};
 use super::verdict::{Verdict, judge};
 use super::{Status, complain, identity, tell};
+use blotheath::Allowance;
 use std::io::{self, IsTerminal, Write};
 use std::path::PathBuf;
 
@@ -29,24 +31,31 @@ impl Tally {
     }
 }
 
-pub fn run(out: &mut dyn Write, style: Style, paths: &[PathBuf], json: bool) -> io::Result<Status> {
+pub fn run(
+    out: &mut dyn Write,
+    style: Style,
+    paths: &[PathBuf],
+    allowance: Allowance,
+    json: bool,
+) -> io::Result<Status> {
     let found = input::find(paths);
     if json {
-        return write_json(out, &found);
+        return write_json(out, &found, allowance);
     }
+    allowance::write(out, style, allowance)?;
     let mut tally = Tally::default();
     let mut progress = Progress::new(found.len());
     for file in &found {
         progress.draw(out)?;
         let name = text::path(&file.path);
-        let bytes = bytes(file);
-        let verdict = bytes.as_ref().map(|bytes| (bytes, judge(bytes)));
+        let input = read(file, allowance);
+        let verdict = input.as_ref().map(|input| (input, judge(input)));
         progress.erase();
         match verdict {
-            Ok((bytes, verdict)) => {
+            Ok((input, verdict)) => {
                 write_verdict(out, style, &name, &verdict, &mut tally)?;
                 if let (1, Some(byte)) = (found.len(), verdict.byte()) {
-                    write_around(out, style, bytes, byte)?;
+                    write_around(out, style, &input.bytes, byte)?;
                 }
             }
             Err(fault) => {
@@ -63,11 +72,11 @@ pub fn run(out: &mut dyn Write, style: Style, paths: &[PathBuf], json: bool) -> 
     Ok(tally.status())
 }
 
-/// The bytes of a file that was found.
-fn bytes(found: &Found) -> Result<Vec<u8>, String> {
+/// Reads a file that was found.
+fn read(found: &Found, allowance: Allowance) -> Result<Input, String> {
     match &found.fault {
         Some(fault) => Err(text::fault(fault)),
-        None => input::read(&found.path).map_err(|fault| text::fault(&fault)),
+        None => input::read(&found.path, allowance).map_err(|fault| text::fault(&fault)),
     }
 }
 
@@ -131,7 +140,7 @@ fn summary(tally: &Tally) -> String {
     summary
 }
 
-fn write_json(out: &mut dyn Write, found: &[Found]) -> io::Result<Status> {
+fn write_json(out: &mut dyn Write, found: &[Found], allowance: Allowance) -> io::Result<Status> {
     let mut tally = Tally::default();
     let mut json = Json::new(out);
     json.object(|json| {
@@ -139,7 +148,7 @@ fn write_json(out: &mut dyn Write, found: &[Found]) -> io::Result<Status> {
         json.key("files")?.array(|json| {
             for file in found {
                 json.line()?;
-                json.object(|json| write_file(json, file, &mut tally))?;
+                json.object(|json| write_file(json, file, allowance, &mut tally))?;
             }
             Ok(())
         })?;
@@ -157,20 +166,26 @@ fn write_json(out: &mut dyn Write, found: &[Found]) -> io::Result<Status> {
     Ok(tally.status())
 }
 
-fn write_file(json: &mut Json, file: &Found, tally: &mut Tally) -> io::Result<()> {
+fn write_file(
+    json: &mut Json,
+    file: &Found,
+    allowance: Allowance,
+    tally: &mut Tally,
+) -> io::Result<()> {
     json.key("file")?.string(&file.path.to_string_lossy())?;
-    let bytes = match bytes(file) {
-        Ok(bytes) => bytes,
+    let input = match read(file, allowance) {
+        Ok(input) => input,
         Err(fault) => {
             tally.unread += 1;
             return json.key("unread")?.string(&fault);
         }
     };
-    let verdict = judge(&bytes);
+    let verdict = judge(&input);
     match verdict.passes() {
         true => tally.passed += 1,
         false => tally.refused += 1,
     }
+    allowance::member(json, allowance)?;
     verdict.members(json)
 }
 

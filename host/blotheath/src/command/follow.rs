@@ -1,7 +1,10 @@
 //! `blotheath follow`: a run along choices.
 
+use super::allowance;
+use super::args::Follow;
 use super::beside::{self, Beside};
 use super::choices::{self, Choices, told};
+use super::input::{self, Input};
 use super::json::Json;
 use super::meaning::{Meaning, Reader, registers_member, touched};
 use super::nesting;
@@ -9,25 +12,18 @@ use super::source::Source;
 use super::style::Style;
 use super::text::{self, counted};
 use super::verdict::{judge, refusal_members};
-use super::{Status, complain, input, unusable};
+use super::{Status, complain, unusable};
 use blotheath::{
-    Before, Choice, Flow, Frame, Pattern, Refusal, Run, Standing, Step, Tree, flow, looks_like,
-    opcode_name,
+    Before, Choice, Excess, Flow, Frame, Pattern, Refusal, Run, Standing, Step, Tree, flow,
+    looks_like, opcode_name,
 };
 use std::io::{self, BufRead, IsTerminal, Write};
 use std::path::Path;
 
-pub fn run(
-    out: &mut dyn Write,
-    style: Style,
-    path: &Path,
-    words: &[String],
-    source: Option<&Path>,
-    json: bool,
-    each: bool,
-) -> io::Result<Status> {
+pub fn run(out: &mut dyn Write, style: Style, asked: &Follow) -> io::Result<Status> {
+    let (path, words, each) = (asked.path.as_path(), &asked.choices, asked.each);
     let name = text::path(path);
-    let asks = words.is_empty() && !json;
+    let asks = words.is_empty() && !asked.json;
     if asks && path == Path::new("-") {
         complain("a pattern from standard input needs choices");
         return Ok(Status::Unusable);
@@ -39,20 +35,22 @@ pub fn run(
             return Ok(Status::Unusable);
         }
     };
-    let file = match input::read(path) {
+    let file = match input::read(path, asked.allowance) {
         Ok(file) => file,
         Err(fault) => return Ok(unusable(&name, &fault)),
     };
+    let source = asked.source.as_deref();
     let source = match source.map(Source::read).transpose() {
         Ok(source) => source,
         Err((name, fault)) => return Ok(unusable(&name, &fault)),
     };
     let source = source.as_ref();
     // The archive answers before the tables of the steps are there, which may take as much memory.
-    let answer = blotheath::follow(&file, choices.bytes());
-    if json {
+    let answer = file.follow(choices.bytes());
+    if asked.json {
         return write_json(out, path, &file, source, &choices, each, answer);
     }
+    allowance::write(out, style, file.allowance)?;
     match answer {
         Err(refusal) => refused(out, style, &name, &file, refusal),
         Ok(_) if asks => ask(out, style, &file, source),
@@ -65,7 +63,7 @@ fn refused(
     out: &mut dyn Write,
     style: Style,
     name: &str,
-    file: &[u8],
+    file: &Input,
     refusal: Refusal,
 ) -> io::Result<Status> {
     let sentence = match refusal.number() {
@@ -156,13 +154,13 @@ impl Misses {
 fn list(
     out: &mut dyn Write,
     style: Style,
-    file: &[u8],
+    file: &Input,
     source: Option<&Source>,
     choices: &Choices,
     each: bool,
     answer: &Standing,
 ) -> io::Result<Status> {
-    let pattern = blotheath::load(file).map_err(io::Error::other)?;
+    let pattern = file.load().map_err(io::Error::other)?;
     let tree = Tree::of(&pattern);
     let mut run = Run::new(&pattern, &tree);
     let mut view = View::new(out, style, &pattern, &tree, source);
@@ -192,11 +190,11 @@ fn list(
 fn ask(
     out: &mut dyn Write,
     style: Style,
-    file: &[u8],
+    file: &Input,
     source: Option<&Source>,
 ) -> io::Result<Status> {
     let (done, standing) = {
-        let pattern = blotheath::load(file).map_err(io::Error::other)?;
+        let pattern = file.load().map_err(io::Error::other)?;
         let tree = Tree::of(&pattern);
         let mut asked = Asked {
             run: Run::new(&pattern, &tree),
@@ -206,7 +204,7 @@ fn ask(
         asked.all(&mut View::new(out, style, &pattern, &tree, source))?;
         (asked.done, asked.run.standing())
     };
-    if blotheath::follow(file, done.bytes()) != Ok(standing) {
+    if file.follow(done.bytes()) != Ok(standing) {
         out.flush()?;
         return Ok(differs());
     }
@@ -398,7 +396,7 @@ fn read_line() -> io::Result<Option<String>> {
 fn write_json(
     out: &mut dyn Write,
     path: &Path,
-    file: &[u8],
+    file: &Input,
     source: Option<&Source>,
     choices: &Choices,
     each: bool,
@@ -409,6 +407,7 @@ fn write_json(
     json.object(|json| {
         json.key("file")?.string(&path.to_string_lossy())?;
         super::identity::members(json)?;
+        allowance::member(json, file.allowance)?;
         json.key("choices")?.number(choices.number() as i64)?;
         status = match &answer {
             Ok(answer) => write_run(json, file, source, choices, each, answer)?,
@@ -423,7 +422,7 @@ fn write_json(
 /// The standings of a list that there is no run along.
 fn write_refusal(
     json: &mut Json,
-    file: &[u8],
+    file: &Input,
     choices: &Choices,
     refusal: Refusal,
 ) -> io::Result<Status> {
@@ -431,7 +430,8 @@ fn write_refusal(
         json.line()?;
         json.object(|json| {
             json.key("choices")?.number(choices.number() as i64)?;
-            refusal_members(json, refusal, None, looks_like(file))
+            let excess = Excess::of_examination(&file.bytes, file.allowance, refusal);
+            refusal_members(json, refusal, looks_like(&file.bytes), excess.as_ref())
         })
     })?;
     Ok(Status::Refused)
@@ -440,13 +440,13 @@ fn write_refusal(
 /// The standings of a run: the last, or one after each choice.
 fn write_run(
     json: &mut Json,
-    file: &[u8],
+    file: &Input,
     source: Option<&Source>,
     choices: &Choices,
     each: bool,
     answer: &Standing,
 ) -> io::Result<Status> {
-    let pattern = blotheath::load(file).map_err(io::Error::other)?;
+    let pattern = file.load().map_err(io::Error::other)?;
     let tree = Tree::of(&pattern);
     let mut run = Run::new(&pattern, &tree);
     let beside = Beside::of(source, &pattern);
@@ -573,22 +573,28 @@ impl Misses {
 #[cfg(test)]
 mod tests {
     use super::*;
+    use blotheath::Allowance;
 
-    const SAMPLE: &[u8] = include_bytes!("../../../samples/oval.mrb");
+    fn sample() -> Input {
+        Input {
+            bytes: include_bytes!("../../../samples/oval.mrb").to_vec(),
+            allowance: Allowance::DESKTOP,
+        }
+    }
 
     /// What a list shows where this is the answer for it.
     fn shown(each: bool, answer: &Standing) -> (Status, String) {
         let choices = choices::read(&["go go".to_owned()]).unwrap();
         let mut out = Vec::new();
         let style = Style::of_output();
-        let status = list(&mut out, style, SAMPLE, None, &choices, each, answer);
+        let status = list(&mut out, style, &sample(), None, &choices, each, answer);
         (status.unwrap(), String::from_utf8(out).unwrap())
     }
 
     #[test]
     fn a_wrong_end_is_not_shown() {
-        let answer = blotheath::follow(SAMPLE, &[0, 0]).unwrap();
-        let wrong = blotheath::follow(SAMPLE, &[0, 0, 0]).unwrap();
+        let answer = sample().follow(&[0, 0]).unwrap();
+        let wrong = sample().follow(&[0, 0, 0]).unwrap();
         for each in [false, true] {
             let (status, out) = shown(each, &answer);
             assert_eq!(status, Status::Passed);
@@ -607,7 +613,7 @@ mod tests {
         let mut out = Vec::new();
         let answer = Ok(Standing::Finished);
         let path = Path::new("oval.mrb");
-        let status = write_json(&mut out, path, SAMPLE, None, &choices, false, answer);
+        let status = write_json(&mut out, path, &sample(), None, &choices, false, answer);
         assert_eq!(status.unwrap(), Status::Unusable);
         let out = String::from_utf8(out).unwrap();
         assert!(

@@ -7,7 +7,7 @@ use std::io::{self, Write};
 const GENERAL: &str = include_str!("help.txt");
 
 const EXAMINE: &str = "\
-blotheath examine FILE.. [--json]
+blotheath examine FILE.. [--json] [--preview] [--max-bytes N] [--max-records N]
 
 A line for each file: it passes, with its numbers of records, constants, names and lines; or it is refused, with the
 refusal's number, a sentence, and the record, offset and source line where that can be told. Of a file that does not begin
@@ -18,11 +18,12 @@ with a summary.
 Examples
     blotheath examine oval.mrb
     blotheath examine patterns/ more.mrb
+    blotheath examine patterns/ --preview
     cat oval.mrb | blotheath examine -
 ";
 
 const LOAD: &str = "\
-blotheath load FILE [--json] [--all]
+blotheath load FILE [--json] [--all] [--preview] [--max-bytes N] [--max-records N]
 
 How many visits the walk over the local names makes, and the rows of a file that loads: records, handlers, constants,
 symbols, local names, debug files, lines. The walk visits record 0 and, of each record that it visits, as many children
@@ -47,11 +48,12 @@ Text reads back to the same bytes, a zero byte from \\u0000; what is not UTF-8 i
 Examples
     blotheath load oval.mrb
     blotheath load oval.mrb --all
+    blotheath load oval.mrb --max-records 5
     blotheath load oval.mrb --json | jq '.records[0].constants'
 ";
 
 const STEPS: &str = "\
-blotheath steps FILE [--source SOURCE.rb] [--json] [--all]
+blotheath steps FILE [--source SOURCE.rb] [--json] [--all] [--preview] [--max-bytes N] [--max-records N]
 
 Each instruction of each record: its offset, name, operands with their meaning, and source line. A record's head tells where
 it stands among the others: inside 1, depth 2 for one that record 1 contains, outermost for record 0, never reached for any
@@ -72,7 +74,7 @@ Examples
 ";
 
 const FOLLOW: &str = "\
-blotheath follow FILE [CHOICE..] [--each] [--source SOURCE.rb] [--json]
+blotheath follow FILE [CHOICE..] [--each] [--source SOURCE.rb] [--json] [--preview] [--max-bytes N] [--max-records N]
 
 Runs a file that passes, from its first instruction, along the choices, and shows the frames with their lines, and where their
 records stand among the others, as `steps` tells it; in JSON each frame has the \"depth\" and the \"parent\" of its record.
@@ -98,7 +100,7 @@ Examples
 ";
 
 const REPORT: &str = "\
-blotheath report FILE [-o PAGE.html] [--source SOURCE.rb] [--force]
+blotheath report FILE [-o PAGE.html] [--source SOURCE.rb] [--force] [--preview] [--max-bytes N] [--max-records N]
 
 One page that needs nothing else: the verdict, what is proved and what that rests on, the constants with where they stand in
 the file, the steps beside their source lines, and a picture of the records, in which each has a link to the record that
@@ -109,6 +111,19 @@ with --force.
 
 Example
     blotheath report oval.mrb -o oval.html --source oval.rb
+";
+
+/// What the help on every command that reads a file ends with.
+const ALLOWANCE: &str = "
+Allowance
+    --preview          at most 16,384 bytes and 64 records, as the web's preview page takes
+    --max-bytes N      at most N bytes
+    --max-records N    at most N records
+Without these it is the desktop's: at most 65,536 bytes and 1,024 records. A larger N counts as the desktop's, and N may be 0.
+Beside --preview an N stands in the place of the preview's. A file beyond its allowance is refused by 29. That tells which of
+the two is exceeded and by how much, as far as that is known, and what comes of the file under the desktop's allowance. Records
+are counted as they are read, and the first one too many decides, whatever follows it. An allowance that is not the desktop's
+is told first. In JSON \"allowance\" is always there, and \"excess\" where a file is beyond it.
 ";
 
 const OPCODES: &str = "\
@@ -134,15 +149,15 @@ Examples
 
 /// Writes the help on everything, or on one command.
 pub fn write(out: &mut dyn Write, topic: Option<&str>) -> io::Result<Status> {
-    let text = match topic {
-        Some("examine") => EXAMINE,
-        Some("load") => LOAD,
-        Some("steps") => STEPS,
-        Some("follow") => FOLLOW,
-        Some("report") => REPORT,
-        Some("opcodes") => OPCODES,
-        _ => GENERAL,
+    let (text, end) = match topic {
+        Some("examine") => (EXAMINE, ALLOWANCE),
+        Some("load") => (LOAD, ALLOWANCE),
+        Some("steps") => (STEPS, ALLOWANCE),
+        Some("follow") => (FOLLOW, ALLOWANCE),
+        Some("report") => (REPORT, ALLOWANCE),
+        Some("opcodes") => (OPCODES, ""),
+        _ => (GENERAL, ""),
     };
-    out.write_all(text.as_bytes())?;
+    write!(out, "{text}{end}")?;
     Ok(Status::Passed)
 }

@@ -1,14 +1,46 @@
 //! Reading of files and walking of folders.
 
-use blotheath::FILE_LIMIT;
+use blotheath::{
+    Allowance, FILE_LIMIT, Pattern, Place, Refusal, Standing, examine_within, follow_within,
+    load_within, locate_within,
+};
 use std::fs::{self, File, Metadata};
 use std::io::{self, Read};
 use std::os::fd::AsFd;
 use std::os::unix::fs::MetadataExt;
 use std::path::{Path, PathBuf};
 
-/// The bytes of a file, up to one byte past the limit; `-` is standard input.
-pub fn read(path: &Path) -> io::Result<Vec<u8>> {
+/// The bytes of a file, and the allowance that it is read under.
+pub struct Input {
+    pub bytes: Vec<u8>,
+    pub allowance: Allowance,
+}
+
+impl Input {
+    pub fn load(&self) -> Result<Pattern<'_>, Refusal> {
+        load_within(&self.bytes, self.allowance)
+    }
+
+    pub fn examine(&self) -> Result<Pattern<'_>, Refusal> {
+        examine_within(&self.bytes, self.allowance)
+    }
+
+    pub fn follow(&self, choices: &[u8]) -> Result<Standing, Refusal> {
+        follow_within(&self.bytes, self.allowance, choices)
+    }
+
+    pub fn locate(&self, pattern: Option<&Pattern>, refusal: Refusal) -> Option<Place> {
+        locate_within(&self.bytes, self.allowance, pattern, refusal)
+    }
+}
+
+/// A file under an allowance: its bytes up to one past the longest file's, whatever the allowance is; `-` is standard input.
+pub fn read(path: &Path, allowance: Allowance) -> io::Result<Input> {
+    let bytes = read_bytes(path)?;
+    Ok(Input { bytes, allowance })
+}
+
+fn read_bytes(path: &Path) -> io::Result<Vec<u8>> {
     if path == Path::new("-") {
         return read_some(io::stdin().lock());
     }

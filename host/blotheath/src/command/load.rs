@@ -1,12 +1,14 @@
 //! `blotheath load`: the rows of a file.
 
+use super::allowance;
+use super::input::Input;
 use super::json::Json;
 use super::nesting;
 use super::style::Style;
 use super::text::{self, counted, grouped};
 use super::verdict::{self, count_members};
 use super::{MOST_SHOWN, Status, input, unusable};
-use blotheath::{Constant, Pattern, Record, Refusal, Text, locate, looks_like};
+use blotheath::{Allowance, Constant, Excess, Pattern, Record, Refusal, Text, looks_like};
 use std::cell::Cell;
 use std::io::{self, Write};
 use std::path::Path;
@@ -15,18 +17,20 @@ pub fn run(
     out: &mut dyn Write,
     style: Style,
     path: &Path,
+    allowance: Allowance,
     json: bool,
     all: bool,
 ) -> io::Result<Status> {
     let name = text::path(path);
-    let file = match input::read(path) {
+    let file = match input::read(path, allowance) {
         Ok(file) => file,
         Err(fault) => return Ok(unusable(&name, &fault)),
     };
-    let loaded = blotheath::load(&file);
+    let loaded = file.load();
     if json {
         write_json(out, path, &file, &loaded, all)?;
     } else {
+        allowance::write(out, style, allowance)?;
         match &loaded {
             Ok(pattern) => {
                 let counts = pattern.counts();
@@ -41,8 +45,9 @@ pub fn run(
                 write_tables(out, style, pattern, all)?;
             }
             Err(refusal) => {
-                let place = locate(&file, None, *refusal);
-                let sentence = verdict::refused(*refusal, place.as_ref());
+                let place = file.locate(None, *refusal);
+                let excess = Excess::of_load(&file.bytes, allowance, *refusal);
+                let sentence = verdict::refused(*refusal, place.as_ref(), excess.as_ref());
                 writeln!(out, "{name}: {}", style.bad(&sentence))?;
             }
         }
@@ -425,7 +430,7 @@ struct Left {
 fn write_json(
     out: &mut dyn Write,
     path: &Path,
-    file: &[u8],
+    file: &Input,
     loaded: &Result<Pattern, Refusal>,
     all: bool,
 ) -> io::Result<()> {
@@ -433,12 +438,15 @@ fn write_json(
     json.object(|json| {
         json.key("file")?.string(&path.to_string_lossy())?;
         super::identity::members(json)?;
+        allowance::member(json, file.allowance)?;
         json.key("loads")?.boolean(loaded.is_ok())?;
         match loaded {
             Ok(pattern) => write_rows(json, pattern, all),
             Err(refusal) => {
-                let place = locate(file, None, *refusal);
-                verdict::refusal_members(json, *refusal, place.as_ref(), looks_like(file))
+                let (place, like) = (file.locate(None, *refusal), looks_like(&file.bytes));
+                let excess = Excess::of_load(&file.bytes, file.allowance, *refusal);
+                verdict::refusal_members(json, *refusal, like, excess.as_ref())?;
+                verdict::place_member(json, place.as_ref())
             }
         }
     })?;

@@ -1,5 +1,6 @@
 //! The commands and what they share.
 
+mod allowance;
 mod args;
 mod arrows;
 mod beside;
@@ -56,32 +57,37 @@ pub fn run(words: &[OsString]) -> io::Result<Status> {
     let status = match command {
         Command::Help(topic) => help::write(&mut out, topic.as_deref()),
         Command::Version => identity::write_version(&mut out),
-        Command::Examine { paths, json } => examine::run(&mut out, style, &paths, json),
-        Command::Load { path, json, all } => load::run(&mut out, style, &path, json, all),
+        Command::Examine {
+            paths,
+            allowance,
+            json,
+        } => examine::run(&mut out, style, &paths, allowance, json),
+        Command::Load {
+            path,
+            allowance,
+            json,
+            all,
+        } => load::run(&mut out, style, &path, allowance, json, all),
         Command::Steps {
             path,
+            allowance,
             source,
             json,
             all,
-        } => steps::run(&mut out, style, &path, source.as_deref(), json, all),
-        Command::Follow {
-            path,
-            choices,
-            source,
-            json,
-            each,
         } => {
             let source = source.as_deref();
-            follow::run(&mut out, style, &path, &choices, source, json, each)
+            steps::run(&mut out, style, &path, allowance, source, json, all)
         }
+        Command::Follow(asked) => follow::run(&mut out, style, &asked),
         Command::Report {
             path,
+            allowance,
             output,
             source,
             force,
         } => {
             let (output, source) = (output.as_deref(), source.as_deref());
-            report::run(&mut out, &path, output, source, force)
+            report::run(&mut out, style, &path, allowance, output, source, force)
         }
         Command::Opcodes { json } => opcodes::run(&mut out, style, json),
     }?;

@@ -1,5 +1,6 @@
 //! `blotheath steps`: the instructions of each record.
 
+use super::allowance;
 use super::arrows::{Arrow, Margin};
 use super::beside::{self, Beside};
 use super::json::Json;
@@ -12,7 +13,7 @@ use super::style::Style;
 use super::text::{self, counted, grouped};
 use super::verdict::{Verdict, judge};
 use super::{MOST_SHOWN, Status, input, unusable};
-use blotheath::{BadStep, Pattern, Record, Step, Tree, opcode_name};
+use blotheath::{Allowance, BadStep, Pattern, Record, Step, Tree, opcode_name};
 use std::io::{self, Write};
 use std::path::Path;
 
@@ -20,12 +21,13 @@ pub fn run(
     out: &mut dyn Write,
     style: Style,
     path: &Path,
+    allowance: Allowance,
     source: Option<&Path>,
     json: bool,
     all: bool,
 ) -> io::Result<Status> {
     let name = text::path(path);
-    let file = match input::read(path) {
+    let file = match input::read(path, allowance) {
         Ok(file) => file,
         Err(fault) => return Ok(unusable(&name, &fault)),
     };
@@ -35,8 +37,9 @@ pub fn run(
     };
     let verdict = judge(&file);
     if json {
-        write_json(out, path, &verdict, source.as_ref(), all)?;
+        write_json(out, path, allowance, &verdict, source.as_ref(), all)?;
     } else {
+        allowance::write(out, style, allowance)?;
         write(out, style, &name, &verdict, source.as_ref(), all)?;
     }
     Ok(match verdict.passes() {
@@ -291,6 +294,7 @@ impl View<'_, '_, '_> {
 fn write_json(
     out: &mut dyn Write,
     path: &Path,
+    allowance: Allowance,
     verdict: &Verdict,
     source: Option<&Source>,
     all: bool,
@@ -299,6 +303,7 @@ fn write_json(
     json.object(|json| {
         json.key("file")?.string(&path.to_string_lossy())?;
         super::identity::members(json)?;
+        allowance::member(json, allowance)?;
         verdict.members(json)?;
         let Some(pattern) = verdict.pattern() else {
             return Ok(());

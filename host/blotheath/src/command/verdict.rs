@@ -1,8 +1,10 @@
 //! The verdict on a file, and where a refusal lies.
 
+use super::allowance::{self, excess_member};
+use super::input::Input;
 use super::json::Json;
 use super::text::{counted, grouped, visible};
-use blotheath::{Counts, NameWalk, Pattern, Place, Refusal, examine, load, locate, looks_like};
+use blotheath::{Counts, Excess, NameWalk, Pattern, Place, Refusal, looks_like};
 use std::io;
 
 /// What examination says of a file.
@@ -13,26 +15,28 @@ pub enum Verdict<'a> {
         place: Option<Place>,
         /// What a file that is no pattern looks like.
         looks_like: Option<&'static str>,
+        /// How far a file is beyond its allowance.
+        excess: Option<Excess>,
         /// The pattern, where the file loads all the same.
         pattern: Option<Pattern<'a>>,
     },
 }
 
 /// Examines a file and searches where a refusal lies.
-pub fn judge(file: &[u8]) -> Verdict<'_> {
-    let refusal = match examine(file) {
+pub fn judge(file: &Input) -> Verdict<'_> {
+    let refusal = match file.examine() {
         Ok(pattern) => return Verdict::Passes(pattern),
         Err(refusal) => refusal,
     };
     let pattern = match refusal.is_of_examination() {
-        true => load(file).ok(),
+        true => file.load().ok(),
         false => None,
     };
-    let place = locate(file, pattern.as_ref(), refusal);
     Verdict::Refused {
         refusal,
-        place,
-        looks_like: looks_like(file),
+        place: file.locate(pattern.as_ref(), refusal),
+        looks_like: looks_like(&file.bytes),
+        excess: Excess::of_examination(&file.bytes, file.allowance, refusal),
         pattern,
     }
 }
@@ -62,7 +66,12 @@ impl<'a> Verdict<'a> {
     pub fn sentence(&self) -> String {
         match self {
             Verdict::Passes(pattern) => format!("passes: {}", counts(pattern.counts())),
-            Verdict::Refused { refusal, place, .. } => refused(*refusal, place.as_ref()),
+            Verdict::Refused {
+                refusal,
+                place,
+                excess,
+                ..
+            } => refused(*refusal, place.as_ref(), excess.as_ref()),
         }
     }
 
@@ -75,32 +84,48 @@ impl<'a> Verdict<'a> {
                 refusal,
                 place,
                 looks_like,
+                excess,
                 ..
-            } => refusal_members(json, *refusal, place.as_ref(), *looks_like),
+            } => {
+                refusal_members(json, *refusal, *looks_like, excess.as_ref())?;
+                place_member(json, place.as_ref())
+            }
         }
     }
 }
 
-/// A refusal in one line, with its place.
-pub fn refused(refusal: Refusal, place: Option<&Place>) -> String {
-    match place {
-        Some(place) => format!("{refusal} ({})", told(place)),
-        None => refusal.to_string(),
+/// A refusal in one line, with its place and how far the file is beyond its allowance.
+pub fn refused(refusal: Refusal, place: Option<&Place>, excess: Option<&Excess>) -> String {
+    let mut sentence = refusal.to_string();
+    if let Some(place) = place {
+        sentence += &format!(" ({})", told(place));
     }
+    if let Some(excess) = excess {
+        sentence += &format!("; {}", allowance::beyond(excess));
+    }
+    sentence
 }
 
-/// A refusal, what the file looks like, and the place, as members of a JSON object.
+/// A refusal, what the file looks like, and how far it is beyond its allowance, as members of a JSON object.
 pub fn refusal_members(
     json: &mut Json,
     refusal: Refusal,
-    place: Option<&Place>,
     looks_like: Option<&str>,
+    excess: Option<&Excess>,
 ) -> io::Result<()> {
     json.key("refusal")?.number(refusal.number())?;
     json.key("sentence")?.string(refusal.sentence())?;
     if let Some(like) = looks_like {
         json.key("looks_like")?.string(like)?;
     }
+    match excess {
+        Some(excess) => excess_member(json, excess),
+        None => Ok(()),
+    }
+}
+
+/// The place of a refusal, where it has one, as a member of a JSON object.
+pub fn place_member(json: &mut Json, place: Option<&Place>) -> io::Result<()> {
     match place {
         Some(place) => json.key("place")?.object(|json| place_members(json, place)),
         None => Ok(()),

@@ -1,6 +1,7 @@
 //! Where a refusal of loading lies: a reading of the file's bytes, forward as the papers say.
 
 use super::Place;
+use crate::allowance::Allowance;
 use crate::hint::looks_like;
 use crate::tables::{
     self, FILENAMES, FILES, HANDLERS, LINES, NAMES, POOL, RECORD_LIMIT, RECORDS, STRINGS, SYMBOLS,
@@ -27,11 +28,12 @@ const UNNAMED: u32 = 65_535;
 /// The number of a refusal, and where it lies.
 type Met = (u32, Place);
 
-/// The first refusal that reading meets, and where.
-pub fn search(file: &[u8]) -> Option<Met> {
+/// The first refusal that reading meets under an allowance, and where.
+pub fn search(file: &[u8], allowance: Allowance) -> Option<Met> {
     let length = file.len().min(FILE_LIMIT);
     let mut reader = Reader {
         file,
+        allowance: allowance.granted(),
         lent: tables::most_rows(length),
         used: [0; 9],
         heads: Vec::new(),
@@ -49,6 +51,7 @@ struct Head {
 
 struct Reader<'a> {
     file: &'a [u8],
+    allowance: Allowance,
     /// The rows that are lent of each table, and those that are used.
     lent: [usize; 9],
     used: [usize; 9],
@@ -190,6 +193,11 @@ impl<'a> Reader<'a> {
         if length > FILE_LIMIT {
             let what = "the file goes on behind its 65,536th byte".to_owned();
             return Err(met(1, None, FILE_LIMIT, self.hinted(what)));
+        }
+        let allowed = self.allowance.bytes as usize;
+        if length > allowed {
+            let what = "the file goes on behind its last allowed byte".to_owned();
+            return Err(met(29, None, allowed, self.hinted(what)));
         }
         let ends = || format!("the file ends here, after {length} bytes");
         if length < HEADER_BYTES {
@@ -334,6 +342,17 @@ impl<'a> Reader<'a> {
         Err(part.met(14, byte, what))
     }
 
+    /// Takes a row for the record that begins at a byte, where the allowance has it too.
+    fn need_record(&mut self, part: &Part, byte: usize) -> Result<(), Met> {
+        self.need(RECORDS, part, byte)?;
+        let allowed = self.allowance.records as usize;
+        if self.used[RECORDS] > allowed {
+            let what = format!("a record begins here, and {allowed} are allowed");
+            return Err(part.met(29, byte, what));
+        }
+        Ok(())
+    }
+
     fn read_irep(&mut self, start: usize) -> Result<usize, Met> {
         let (mut part, size) = self.part("IREP", start)?;
         part.bytes(4, format_args!("the section's header"))?;
@@ -356,7 +375,7 @@ impl<'a> Reader<'a> {
             end: self.file.len(),
         };
         let header = part.bytes(16, format_args!("the record's header"))?;
-        self.need(RECORDS, &part, start)?;
+        self.need_record(&part, start)?;
         self.heads.push(Head {
             start,
             nlocals: high_first(&header[4..6]),

@@ -5,6 +5,7 @@
 mod examined;
 mod forward;
 
+use crate::allowance::Allowance;
 use crate::pattern::Pattern;
 use crate::refusal::Refusal;
 
@@ -22,11 +23,21 @@ pub struct Place {
     pub what: String,
 }
 
-/// The place of a file's refusal: by examination over the pattern that it loads to, by loading over its bytes alone.
+/// The place of a file's refusal under the desktop's allowance.
 pub fn locate(file: &[u8], pattern: Option<&Pattern>, refusal: Refusal) -> Option<Place> {
+    locate_within(file, Allowance::DESKTOP, pattern, refusal)
+}
+
+/// The place of a file's refusal under an allowance: by examination over the pattern that it loads to, by loading over its bytes alone.
+pub fn locate_within(
+    file: &[u8],
+    allowance: Allowance,
+    pattern: Option<&Pattern>,
+    refusal: Refusal,
+) -> Option<Place> {
     let (number, place) = match pattern {
         Some(pattern) => examined::search(pattern),
-        None => forward::search(file),
+        None => forward::search(file, allowance),
     }?;
     (number == refusal.number()).then_some(place)
 }

@@ -38,7 +38,7 @@ const CONDITIONS: [Condition; 7] = [
     condition(
         &[],
         When::Loading,
-        "The file can be read as the format says.",
+        "The file can be read as the format says, and is within its allowance.",
     ),
     condition(&[15], When::Once, "The records form one whole tree."),
     condition(
@@ -257,7 +257,7 @@ mod tests {
 
     #[test]
     fn a_file_that_does_not_load() {
-        for number in [7, 27, 28] {
+        for number in [7, 27, 28, 29] {
             assert_eq!(told(number, None), ["not looked at"; 6]);
         }
     }
@@ -337,7 +337,7 @@ mod tests {
 
     #[test]
     fn numbers_of_conditions() {
-        assert_eq!(CONDITIONS[0].numbers(), "1 to 14, 27, 28");
+        assert_eq!(CONDITIONS[0].numbers(), "1 to 14, 27 to 29");
         assert_eq!(CONDITIONS[1].numbers(), "15");
         assert_eq!(CONDITIONS[2].numbers(), "16, 25");
         assert_eq!(runs([].into_iter()), "");

@@ -16,11 +16,14 @@ mod proof;
 mod steps;
 mod tree;
 
+use super::allowance;
 use super::beside::stranger;
 use super::source::{self, Source};
+use super::style::Style;
 use super::text;
 use super::verdict::judge;
 use super::{Status, complain, input, unusable};
+use blotheath::Allowance;
 use output::Output;
 use page::Page;
 use std::fs;
@@ -29,13 +32,15 @@ use std::path::Path;
 
 pub fn run(
     out: &mut dyn Write,
+    style: Style,
     path: &Path,
+    allowance: Allowance,
     output: Option<&Path>,
     source: Option<&Path>,
     force: bool,
 ) -> io::Result<Status> {
     let name = text::path(path);
-    let file = match input::read(path) {
+    let file = match input::read(path, allowance) {
         Ok(file) => file,
         Err(fault) => return Ok(unusable(&name, &fault)),
     };
@@ -62,7 +67,8 @@ pub fn run(
     }
     let page = Page {
         name: &name,
-        file: &file,
+        file: &file.bytes,
+        allowance,
         verdict: &verdict,
         source: source.as_ref(),
     };
@@ -73,6 +79,7 @@ pub fn run(
         if let Err(fault) = written {
             return Ok(unusable(&output_name, &fault));
         }
+        allowance::write(out, style, allowance)?;
         let sentence = verdict.sentence();
         writeln!(out, "{name}: {sentence}")?;
         writeln!(out, "{output_name} is written")?;

@@ -4,12 +4,13 @@ use super::html::{css, escape};
 use super::output::{MARK, VERSION};
 use super::source::Source;
 use super::{cards, checklist, constants, foot, hex, map, outline, proof, steps, tree};
+use crate::command::allowance;
 use crate::command::labels::labels;
 use crate::command::meaning::Reader;
 use crate::command::sha256;
 use crate::command::text::{self, counted, grouped};
 use crate::command::verdict::{Verdict, name_walk, told};
-use blotheath::{DOUBT, FILE_LIMIT, NameWalk, Pattern, Place, Refusal, Tree};
+use blotheath::{Allowance, DOUBT, FILE_LIMIT, NameWalk, Pattern, Place, Refusal, Tree};
 use std::collections::BTreeSet;
 use std::io::{self, Write};
 
@@ -17,6 +18,7 @@ use std::io::{self, Write};
 pub struct Page<'p> {
     pub name: &'p str,
     pub file: &'p [u8],
+    pub allowance: Allowance,
     pub verdict: &'p Verdict<'p>,
     pub source: Option<&'p Source>,
 }
@@ -142,6 +144,19 @@ impl Page<'_> {
             self.place(out, place)?;
         }
         self.facts(out)?;
+        let told = format!(
+            "Examined under an allowance of {}.",
+            allowance::told(self.allowance)
+        );
+        writeln!(out, "<p class=\"note\">{}</p>", escape(&told))?;
+        if let Verdict::Refused {
+            excess: Some(excess),
+            ..
+        } = self.verdict
+        {
+            let told = sentence(&allowance::beyond(excess));
+            writeln!(out, "<p class=\"caution\">{}</p>", escape(&told))?;
+        }
         if let Some(told) = self.other_walk() {
             writeln!(out, "<p class=\"caution\">{}</p>", escape(&sentence(&told)))?;
         }
@@ -273,11 +288,13 @@ mod tests {
             refusal: Refusal(5),
             place: Some(place),
             looks_like: None,
+            excess: None,
             pattern: None,
         };
         let page = Page {
             name: "folder/a.mrb",
             file,
+            allowance: Allowance::DESKTOP,
             verdict: &verdict,
             source: None,
         };

@@ -6,7 +6,7 @@ use std::io::{self, Write};
 const CLAIMS: [(&str, &str); 4] = [
     (
         "Loading",
-        "For every file whatever, the verdict of loading and every row that it fills are what the definition of the format says.",
+        "For every file whatever, under every allowance, the verdict of loading and every row that it fills are what the definition of the format says.",
     ),
     (
         "Constants, names and lines",
@@ -28,7 +28,8 @@ const TRUSTED: [&str; 4] = [
     "The logic and the compiler of the Rattle kit, and the call from this program into the proved archive.",
     "This program reads the file, asks the proved archive, and draws this page. It is tested, not proved. Names of opcodes, \
      operands that a prefix widens, words for arguments and parameters, labels of records, jumps, pictures, the place of a \
-     refusal, with how far each condition was looked at, and what a file that is no pattern looks like, are its own.",
+     refusal, with how far each condition was looked at, how far a file is beyond its allowance, and what a file that is no pattern \
+     looks like, are its own.",
     "Nothing proves that a source text shown here is the text that the pattern was made from.",
 ];
 
