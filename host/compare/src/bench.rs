@@ -1,12 +1,13 @@
 //! Times of load: the port's against the original's over the corpus, and over hostile files.
 
 use crate::Stop;
+use crate::allowance::read_all;
 use crate::args::Args;
 use crate::load::corpus;
 use crate::port::Port;
 use crate::quiet;
 use crate::subject::Subject;
-use model::{Sizes, Tables};
+use model::{Allowance, Sizes, Tables};
 use original::rite::rite;
 use std::hint::black_box;
 use std::time::{Duration, Instant};
@@ -49,7 +50,7 @@ fn real_files(rounds: u64) -> Result<(), Stop> {
     };
     let mut port = || {
         for ((_, file), tables) in files.iter().zip(&mut lent) {
-            black_box(Port.load(black_box(file), tables));
+            black_box(Port.load(black_box(file), Allowance::DESKTOP, tables));
         }
     };
     let mut times: [Vec<Duration>; 2] = Default::default();
@@ -69,7 +70,7 @@ fn real_files(rounds: u64) -> Result<(), Stop> {
         let mut tables = Sizes([words; 9]).zeros();
         let mut port = || {
             for (_, file) in &files {
-                black_box(Port.load(black_box(file), &mut tables));
+                black_box(Port.load(black_box(file), Allowance::DESKTOP, &mut tables));
             }
         };
         median((0..rounds / 10 + 1).map(|_| timed(&mut port)).collect())
@@ -93,13 +94,13 @@ fn real_files(rounds: u64) -> Result<(), Stop> {
 fn hostile_file(name: &str, file: &[u8]) -> Result<(), Stop> {
     let mut tables = fitting(file);
     let words: usize = tables.iter().map(Vec::len).sum();
-    let answer = Port.load(file, &mut tables);
+    let answer = Port.load(file, Allowance::DESKTOP, &mut tables);
     if answer.refusal != 0 || answer.rows[0] != 1_024 {
         return Err(Stop::Difference(format!("{name}: {answer:?}")));
     }
     let port = hostile_time(file, &mut tables);
     let mut short = Sizes::of_rows([1_024; 9]).zeros();
-    let refused = Port.load(file, &mut short).refusal;
+    let refused = Port.load(file, Allowance::DESKTOP, &mut short).refusal;
     let small = hostile_time(file, &mut short);
     let original = timed(&mut || _ = black_box(rite::load(file).is_ok()));
     println!(
@@ -123,13 +124,13 @@ fn hostile_file(name: &str, file: &[u8]) -> Result<(), Stop> {
 
 /// The median of five loads.
 fn hostile_time(file: &[u8], tables: &mut Tables) -> Duration {
-    let mut load = || _ = black_box(Port.load(black_box(file), tables));
+    let mut load = || _ = black_box(Port.load(black_box(file), Allowance::DESKTOP, tables));
     median((0..5).map(|_| timed(&mut load)).collect())
 }
 
 /// Tables with a place for each row of a file.
 fn fitting(file: &[u8]) -> Tables {
-    Sizes::of_rows(model::read(file, [usize::MAX; 9]).rows.used()).zeros()
+    Sizes::of_rows(read_all(file).rows.used()).zeros()
 }
 
 fn timed(pass: &mut dyn FnMut()) -> Duration {

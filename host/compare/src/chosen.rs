@@ -32,13 +32,19 @@ pub fn groups() -> Vec<Group> {
 #[cfg(test)]
 mod tests {
     use super::*;
-    use model::{Refusal, Sizes};
+    use crate::allowance::read_all;
+    use model::{Allowance, Refusal, Sizes};
 
     /// The answer of a file's examination over tables that fit.
     fn answer(file: &[u8]) -> Refusal {
-        let reading = model::read(file, [usize::MAX; 9]);
+        let reading = read_all(file);
         assert_eq!(reading.end, Ok(()));
-        model::examine(file, &Sizes::of_rows(reading.rows.used())).refusal
+        model::examine(
+            file,
+            Allowance::DESKTOP,
+            &Sizes::of_rows(reading.rows.used()),
+        )
+        .refusal
     }
 
     #[test]

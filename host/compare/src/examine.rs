@@ -1,16 +1,18 @@
 //! Examination: the port held against the model over lent tables of any sizes, and both against the corpus, of which every file passes.
 
 use crate::Stop;
+use crate::allowance::{self, Met, read_all};
 use crate::args::Args;
 use crate::chosen;
 use crate::generate::{Generator, all_steps, needed_by_step};
 use crate::load::{ANSWERS, at_work, corpus, difference, garbage, other_sizes, watch};
 use crate::newer::NEWER;
+use crate::oracle::BEYOND;
 use crate::prefixes::PREFIXES;
 use crate::registers;
 use crate::rng::Rng;
 use crate::subject::{Subject, answers_as, subjects};
-use model::{OPCODES, Record, Refusal, Sizes, Step};
+use model::{Allowance, OPCODES, Record, Refusal, Sizes, Step};
 use std::collections::{BTreeMap, BTreeSet};
 
 /// The refusals of a file that loads: "none of 15 to 20 and 25".
@@ -26,11 +28,11 @@ pub fn compare(args: &Args) -> Result<(), Stop> {
     watch();
     let subjects = subjects();
     let corpus = corpus();
-    let mut by_number = BTreeMap::<Refusal, [u64; 2]>::new();
+    let mut by_number = BTreeMap::<Refusal, [u64; 3]>::new();
     let mut with = With::default();
     for (i, (name, file)) in corpus.iter().enumerate() {
         let mut rng = Rng::new(seed, u64::MAX - i as u64);
-        let [fitting, _] =
+        let [fitting, ..] =
             one(&subjects, file, &mut rng).map_err(|why| difference(name, file, &why))?;
         if fitting != 0 {
             let why = format!("the answer is {fitting}, the corpus says that it passes");
@@ -57,14 +59,14 @@ pub fn compare(args: &Args) -> Result<(), Stop> {
     }
     let names: Vec<&str> = subjects.iter().map(|subject| subject.name()).collect();
     println!("subjects: {}", names.join(", "));
-    println!("answers over tables that fit, and over other sizes:");
-    for number in ANSWERS.into_iter().chain(NOT_PASSING) {
-        let [fitting, other] = by_number.get(&number).copied().unwrap_or_default();
+    println!("answers over tables that fit, over other sizes, and under other allowances:");
+    for number in ANSWERS.into_iter().chain([BEYOND]).chain(NOT_PASSING) {
+        let [fitting, other, allowed] = by_number.get(&number).copied().unwrap_or_default();
         let name = match number {
             0 => "passed".to_owned(),
             n => format!("refused {n}"),
         };
-        println!("  {name:<11}{fitting:>9}{other:>9}");
+        println!("  {name:<11}{fitting:>9}{other:>9}{allowed:>9}");
     }
     with.print();
     println!("no difference");
@@ -81,7 +83,7 @@ fn chosen_files(subjects: &[Box<dyn Subject>], seed: u64) -> Result<usize, Stop>
     for (number, (group, (file, right))) in files.iter().enumerate() {
         let mut rng = Rng::new(seed, u64::MAX / 2 + number as u64);
         let wrong = |why: String| difference(group, file, &why);
-        let [answer, _] = one(subjects, file, &mut rng).map_err(wrong)?;
+        let [answer, ..] = one(subjects, file, &mut rng).map_err(wrong)?;
         if answer != *right {
             return Err(wrong(format!("the answer is {answer}, not {right}")));
         }
@@ -109,7 +111,7 @@ impl With {
             17 => 1,
             _ => return,
         };
-        let rows = model::read(file, [usize::MAX; 9]).rows;
+        let rows = read_all(file).rows;
         let at_border: Vec<usize> = all_steps(file, &rows)
             .filter(|(record, step)| is_at_border(record, step, side as u32))
             .map(|(_, step)| step.opcode)
@@ -159,21 +161,28 @@ fn is_at_border(record: &Record, step: &Step, more: u32) -> bool {
     needed > 0 && needed == record.nregs + more
 }
 
-/// Holds every subject against the model on one file; answers the numbers over tables that fit and over other sizes.
-fn one(subjects: &[Box<dyn Subject>], file: &[u8], rng: &mut Rng) -> Result<[Refusal; 2], String> {
+/// Holds every subject against the model on one file; answers the numbers over tables that fit, over other sizes, and under another allowance than the
+/// desktop's.
+fn one(subjects: &[Box<dyn Subject>], file: &[u8], rng: &mut Rng) -> Result<[Refusal; 3], String> {
     at_work(file);
-    let needed = model::read(file, [usize::MAX; 9]).rows.used();
+    let reading = read_all(file);
+    let needed = reading.rows.used();
     let mut fitting = Sizes::of_rows(needed);
     for words in &mut fitting.0 {
         *words += rng.below(4);
     }
-    let lent = [fitting, other_sizes(needed, rng)];
+    let other = other_sizes(needed, rng);
+    let allowance = allowance::any(allowance::own(file.len(), needed[0]), rng);
+    let met = Met::of(file, &reading, allowance);
+    let allowed = met.sizes(rng);
     // The cases do not depend on how many subjects there are.
     let rng = &mut Rng::new(rng.next(), 0);
-    let mut numbers = [0; 2];
-    for (number, sizes) in numbers.iter_mut().zip(lent) {
-        let right = model::examine(file, &sizes);
-        let loaded = model::load(file, &sizes);
+    let desktop = Allowance::DESKTOP;
+    let lent = [(desktop, fitting), (desktop, other), (allowance, allowed)];
+    let mut numbers = [0; 3];
+    for (number, (allowance, sizes)) in numbers.iter_mut().zip(lent) {
+        let right = model::examine(file, allowance, &sizes);
+        let loaded = model::load(file, allowance, &sizes);
         *number = right.refusal;
         // What a load refuses is refused alike; a file that passes answers what its load answers.
         if loaded.refusal != 0 && right.refusal != loaded.refusal
@@ -186,10 +195,21 @@ fn one(subjects: &[Box<dyn Subject>], file: &[u8], rng: &mut Rng) -> Result<[Ref
         }
         for subject in subjects {
             let mut tables = garbage(&sizes, rng);
-            let answer = subject.examine(file, &mut tables);
+            let answer = subject.examine(file, allowance, &mut tables);
             answers_as(subject.name(), answer, &tables, &right)
-                .map_err(|why| format!("over {:?} words {why}", sizes.0))?;
+                .map_err(|why| format!("under {allowance:?} over {:?} words {why}", sizes.0))?;
         }
+    }
+    let examined = model::examine(file, allowance, &allowed);
+    let is_right = match met.over(&allowed) {
+        0 => examined == model::examine(file, desktop, &allowed),
+        refusal => examined.refusal == refusal,
+    };
+    if !is_right {
+        return Err(format!(
+            "under {allowance:?} over {:?} words the model examines with {}",
+            allowed.0, examined.refusal
+        ));
     }
     Ok(numbers)
 }

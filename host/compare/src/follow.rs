@@ -1,15 +1,17 @@
 //! Follow: the port held against the model on files that pass, and on some that do not, along any choices.
 
 use crate::Stop;
+use crate::allowance::{self, Met, read_all};
 use crate::args::Args;
 use crate::chosen;
 use crate::examine::NOT_PASSING;
 use crate::generate::{Generator, steps};
 use crate::load::{ANSWERS, at_work, corpus, difference, garbage, hex, other_sizes, watch};
+use crate::oracle::BEYOND;
 use crate::prefixes::PREFIXES;
 use crate::rng::Rng;
 use crate::subject::{Follow, Model, Subject, first_difference, subjects};
-use model::{OPCODES, Refusal, Rows, Sizes, Step};
+use model::{Allowance, OPCODES, Reading, Refusal, Rows, Sizes, Step, Tables};
 use std::collections::BTreeMap;
 
 #[derive(Default)]
@@ -27,6 +29,8 @@ struct Counts {
     entered_wide: [u64; 2],
     /// Runs whose top frame stands at each prefix.
     at_prefix: [u64; PREFIXES.len()],
+    /// Runs under other allowances than the desktop's.
+    allowed: BTreeMap<Refusal, u64>,
 }
 
 impl Counts {
@@ -63,12 +67,12 @@ pub fn compare(args: &Args) -> Result<(), Stop> {
     for (i, (name, file)) in corpus.iter().enumerate() {
         let mut rng = Rng::new(seed, u64::MAX - i as u64);
         // Without a choice the answer is that of the examination.
-        let sizes = Sizes::of_rows(model::read(file, [usize::MAX; 9]).rows.used());
+        let sizes = Sizes::of_rows(read_all(file).rows.used());
         let records = sizes.rows()[0];
         for subject in &subjects {
             let mut frames = vec![1; 2 * records];
             let mut tables = garbage(&sizes, &mut Rng::new(seed, 0));
-            let answer = subject.follow(file, &mut tables, &mut frames, &[]);
+            let answer = subject.follow(file, Allowance::DESKTOP, &mut tables, &mut frames, &[]);
             if answer.refusal != 0 {
                 let why = format!("{} answers {answer:?}", subject.name());
                 return Err(difference(name, file, &why));
@@ -116,9 +120,13 @@ pub fn compare(args: &Args) -> Result<(), Stop> {
     );
     let [behind, wide] = counts.entered_wide;
     println!("  frames entered behind a prefix: {behind}, at a child above 255: {wide}");
+    println!("  top frames at each prefix: {:?}", counts.at_prefix);
+    let allowed = |number| counts.allowed.get(&number).copied().unwrap_or(0);
     println!(
-        "  top frames at each prefix: {:?}\nno difference",
-        counts.at_prefix
+        "runs under other allowances: {}, of which {} ran and {} are refused 29\nno difference",
+        counts.allowed.values().sum::<u64>(),
+        allowed(0),
+        allowed(BEYOND)
     );
     Ok(())
 }
@@ -129,11 +137,18 @@ fn chosen_runs(subjects: &[Box<dyn Subject>], seed: u64) -> Result<usize, Stop> 
     for group in chosen::groups() {
         for (file, runs) in &group.followed {
             at_work(file);
-            let used = model::read(file, [usize::MAX; 9]).rows.used();
+            let used = read_all(file).rows.used();
             let sizes = Sizes::of_rows(used);
             for (choices, right) in runs {
                 let mut rng = Rng::new(seed, u64::MAX / 2 + number as u64);
-                let held = as_model(subjects, file, &sizes, 2 * used[0], choices, &mut rng);
+                let call = Call {
+                    file,
+                    allowance: Allowance::DESKTOP,
+                    sizes: &sizes,
+                    words: 2 * used[0],
+                    choices,
+                };
+                let held = call.as_model(subjects, &mut rng);
                 let wrong = |why: String| difference(group.name, file, &why);
                 let (answer, _) = held.map_err(wrong)?;
                 if (answer.refusal, answer.numbers) != (0, *right) {
@@ -207,7 +222,9 @@ fn unfinished(bytes: &[u8], finishes: impl Fn(&[u8]) -> bool) -> usize {
 pub fn choices_of(file: &[u8], sizes: &Sizes, frame_words: usize, rng: &mut Rng) -> Vec<u8> {
     let mut choices = choices(rng);
     if !rng.one_in(3) {
-        let finishes = |bytes: &[u8]| model::follow(file, sizes, frame_words, bytes).finished;
+        let finishes = |bytes: &[u8]| {
+            model::follow(file, Allowance::DESKTOP, sizes, frame_words, bytes).finished
+        };
         choices.truncate(unfinished(&choices, finishes));
     }
     choices
@@ -244,43 +261,102 @@ fn step_of(file: &[u8], rows: &Rows, record: u32, is_such: impl Fn(&Step) -> boo
     found.expect("a frame stands at an instruction, and behind one if it was entered from")
 }
 
-/// Holds every subject against the model on one run; the model's answer, and its frames.
-fn as_model(
+/// A run of a file: under which allowance, over which tables and how many words of frames, along which choices.
+struct Call<'a> {
+    file: &'a [u8],
+    allowance: Allowance,
+    sizes: &'a Sizes,
+    words: usize,
+    choices: &'a [u8],
+}
+
+impl Call<'_> {
+    /// A subject's answer, with the tables and the frames that it leaves.
+    fn of(&self, subject: &dyn Subject, rng: &mut Rng) -> (Follow, Tables, Vec<u32>) {
+        let mut tables = garbage(self.sizes, rng);
+        let mut frames = vec![rng.word() | 1; self.words];
+        let answer = subject.follow(
+            self.file,
+            self.allowance,
+            &mut tables,
+            &mut frames,
+            self.choices,
+        );
+        (answer, tables, frames)
+    }
+
+    /// Holds every subject against the model; the model's answer, and its frames.
+    fn as_model(
+        &self,
+        subjects: &[Box<dyn Subject>],
+        rng: &mut Rng,
+    ) -> Result<(Follow, Vec<u32>), String> {
+        // The cases do not depend on how many subjects there are.
+        let rng = &mut Rng::new(rng.next(), 0);
+        let (right, right_tables, right_frames) = self.of(&Model, rng);
+        for subject in subjects {
+            let (answer, tables, frames) = self.of(&**subject, rng);
+            let what = format!("{} {}", self.words(), subject.name());
+            if answer != right {
+                return Err(format!("{what} answers {answer:?}, the model {right:?}"));
+            }
+            if let Some(difference) = first_difference(&tables, &right_tables) {
+                return Err(format!("{what} and the model: {difference}"));
+            }
+            if frames != right_frames {
+                return Err(format!(
+                    "{what} leaves frames {frames:?}, the model {right_frames:?}"
+                ));
+            }
+        }
+        Ok((right, right_frames))
+    }
+
+    /// The call in words.
+    fn words(&self) -> String {
+        format!(
+            "under {:?} over {:?} and {} words along {}",
+            self.allowance,
+            self.sizes.0,
+            self.words,
+            hex(self.choices)
+        )
+    }
+}
+
+/// Holds every subject against the model on one run under another allowance than the desktop's, and the model against the rule for 29 and against its
+/// answer under the desktop's.
+fn under_allowance(
     subjects: &[Box<dyn Subject>],
     file: &[u8],
-    sizes: &Sizes,
-    words: usize,
+    reading: &Reading,
     choices: &[u8],
     rng: &mut Rng,
-) -> Result<(Follow, Vec<u32>), String> {
-    // The cases do not depend on how many subjects there are.
-    let rng = &mut Rng::new(rng.next(), 0);
-    let mut right_tables = garbage(sizes, rng);
-    let mut right_frames = vec![rng.word() | 1; words];
-    let right = Model.follow(file, &mut right_tables, &mut right_frames, choices);
-    for subject in subjects {
-        let mut tables = garbage(sizes, rng);
-        let mut frames = vec![rng.word() | 1; words];
-        let answer = subject.follow(file, &mut tables, &mut frames, choices);
-        let what = format!(
-            "over {:?} and {words} words along {} {}",
-            sizes.0,
-            hex(choices),
-            subject.name()
-        );
-        if answer != right {
-            return Err(format!("{what} answers {answer:?}, the model {right:?}"));
-        }
-        if let Some(difference) = first_difference(&tables, &right_tables) {
-            return Err(format!("{what} and the model: {difference}"));
-        }
-        if frames != right_frames {
-            return Err(format!(
-                "{what} leaves frames {frames:?}, the model {right_frames:?}"
-            ));
-        }
+) -> Result<Refusal, String> {
+    let records = reading.rows.used()[0];
+    let allowance = allowance::any(allowance::own(file.len(), records), rng);
+    let met = Met::of(file, reading, allowance);
+    let sizes = met.sizes(rng);
+    let call = Call {
+        file,
+        allowance,
+        sizes: &sizes,
+        words: frame_words(records, rng),
+        choices,
+    };
+    let (answer, _) = call.as_model(subjects, rng)?;
+    let desktop = Call {
+        allowance: Allowance::DESKTOP,
+        ..call
+    };
+    let is_right = match met.over(&sizes) {
+        0 => call.of(&Model, rng) == desktop.of(&Model, rng),
+        refusal => answer.refusal == refusal,
+    };
+    if !is_right {
+        return Err(format!("{} the model answers {answer:?}", call.words()));
     }
-    Ok((right, right_frames))
+    Ok(answer.refusal)
 }
 
 /// Holds every subject against the model on one file, over some choices, sizes and frame table.
@@ -291,7 +367,8 @@ fn one(
     counts: &mut Counts,
 ) -> Result<(), String> {
     at_work(file);
-    let rows = model::read(file, [usize::MAX; 9]).rows;
+    let reading = read_all(file);
+    let rows = &reading.rows;
     let needed = rows.used();
     let sizes = if rng.one_in(8) {
         other_sizes(needed, rng)
@@ -300,7 +377,14 @@ fn one(
     };
     let words = frame_words(needed[0], rng);
     let choices = choices_of(file, &sizes, words, rng);
-    let (right, right_frames) = as_model(subjects, file, &sizes, words, &choices, rng)?;
+    let call = Call {
+        file,
+        allowance: Allowance::DESKTOP,
+        sizes: &sizes,
+        words,
+        choices: &choices,
+    };
+    let (right, right_frames) = call.as_model(subjects, rng)?;
     let [finished, record, offset, found, _, frames] = right.numbers;
     counts.runs += 1;
     *counts.by_number.entry(right.refusal).or_default() += 1;
@@ -309,12 +393,14 @@ fn one(
         counts.finished += u64::from(finished);
         counts.with_line += u64::from(found);
         counts.by_frames[frames.min(4) as usize] += 1;
-        counts.count_entries(&entries(file, &rows, &right_frames, frames));
+        counts.count_entries(&entries(file, rows, &right_frames, frames));
         if frames > 0 {
             let is_top = |step: &Step| step.offset == offset as usize;
-            counts.count_top(&step_of(file, &rows, record, is_top));
+            counts.count_top(&step_of(file, rows, record, is_top));
         }
     }
+    let refusal = under_allowance(subjects, file, &reading, &choices, &mut rng.beside())?;
+    *counts.allowed.entry(refusal).or_default() += 1;
     Ok(())
 }
 
@@ -328,11 +414,11 @@ mod tests {
         let mut all = Vec::new();
         for index in 0..files {
             let file = generator.runnable(1, index);
-            let rows = model::read(&file, [usize::MAX; 9]).rows;
+            let rows = read_all(&file).rows;
             let sizes = Sizes::of_rows(rows.used());
             let words = 2 * rows.used()[0];
             let choices = choices_of(&file, &sizes, words, &mut Rng::new(!1, index));
-            let right = model::follow(&file, &sizes, words, &choices);
+            let right = model::follow(&file, Allowance::DESKTOP, &sizes, words, &choices);
             all.extend(entries(&file, &rows, &right.frame_table, right.frames));
         }
         all
@@ -360,13 +446,13 @@ mod tests {
 
     /// The kinds of choices that a run takes at instructions behind prefixes.
     fn at_prefixes(file: &[u8], choices: &[u8]) -> Vec<u8> {
-        let reading = model::read(file, [usize::MAX; 9]);
+        let reading = read_all(file);
         let sizes = Sizes::of_rows(reading.rows.used());
         let words = 2 * reading.rows.used()[0];
         let mut kinds = Vec::new();
         let mut at = 0;
         while at < choices.len() {
-            let followed = model::follow(file, &sizes, words, &choices[..at]);
+            let followed = model::follow(file, Allowance::DESKTOP, &sizes, words, &choices[..at]);
             let Some((record, offset)) = followed.top else {
                 break;
             };

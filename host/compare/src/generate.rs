@@ -1,5 +1,6 @@
 //! Files from a seed: valid, damaged and at the boundaries of the papers.
 
+use crate::allowance::read_all;
 use crate::newer::{CHILD_THIRD, NEWER};
 use crate::prefixes::{PREFIXES, instruction, size, widths};
 use crate::registers::{BESIDE_OPERANDS, counting, first_register, needed};
@@ -214,7 +215,7 @@ fn visited(records: &[Seen]) -> usize {
 
 /// The records of a file that ends behind its IREP section, as far as they are read.
 fn seen(file: &[u8]) -> Vec<Seen> {
-    let records = model::read(file, [usize::MAX; 9]).rows.records.rows;
+    let records = read_all(file).rows.records.rows;
     records
         .iter()
         .map(|record| Seen {
@@ -1462,7 +1463,7 @@ impl Maker {
 
     /// Changes one thing that examination looks at, in a record of the file as it loads.
     fn flaw(&mut self, file: &mut [u8]) {
-        let reading = model::read(file, [usize::MAX; 9]);
+        let reading = read_all(file);
         let records = &reading.rows.records.rows;
         if reading.end.is_err() || records.is_empty() {
             return;
@@ -1804,7 +1805,7 @@ pub mod tests {
 
     /// The texts of a file's pool strings, where it loads.
     fn pool_texts(file: &[u8]) -> Vec<&[u8]> {
-        let reading = model::read(file, [usize::MAX; 9]);
+        let reading = read_all(file);
         if reading.end.is_err() {
             return Vec::new();
         }
@@ -1843,7 +1844,7 @@ pub mod tests {
         let generator = generator();
         let files = (0..number).map(|index| generator.examinable(1, index));
         let answered = files.filter_map(|file| {
-            let reading = model::read(&file, [usize::MAX; 9]);
+            let reading = read_all(&file);
             reading.end.ok()?;
             let answer = model::passes(&file, &reading.rows);
             matches!(answer, Ok(()) | Err(17)).then_some((file, reading.rows, answer.is_err()))
@@ -1963,7 +1964,7 @@ pub mod tests {
         let mut met = [0; 2];
         for index in 0..6_000 {
             let file = generator.examinable(1, index);
-            let reading = model::read(&file, [usize::MAX; 9]);
+            let reading = read_all(&file);
             if reading.end.is_ok() && model::passes(&file, &reading.rows) == Err(25) {
                 let stray = stray_prefixes(&file, &reading.rows);
                 assert_ne!(stray, [false; 2]);
@@ -1979,7 +1980,7 @@ pub mod tests {
         let mut met = Vec::new();
         for index in 0..3_000 {
             let (family, file) = generator.file(1, index);
-            let end = model::read(&file, [usize::MAX; 9]).end;
+            let end = read_all(&file).end;
             if let Err(number @ (27 | 28)) = end {
                 assert_eq!(family, IDENT_AND_SIZE, "index {index} is of {number}");
                 met.push(number);

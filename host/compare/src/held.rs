@@ -1,5 +1,6 @@
 //! What is held against the original for a file: the file itself, or a twin where zeros stand inside pool strings, which the original refuses.
 
+use crate::allowance::read_all;
 use crate::oracle;
 use model::{PoolRow, Reading};
 
@@ -24,7 +25,7 @@ impl Held {
             return Ok(Held::Itself);
         }
         oracle::breaks_zero_rule(file)?;
-        if model::read(&twin, [usize::MAX; 9]) != *reading {
+        if read_all(&twin) != *reading {
             return Ok(Held::Nothing);
         }
         Ok(Held::Twin(twin))
@@ -84,7 +85,7 @@ mod tests {
     }
 
     fn held(file: &[u8]) -> Held {
-        Held::of(file, &model::read(file, [usize::MAX; 9])).unwrap()
+        Held::of(file, &read_all(file)).unwrap()
     }
 
     #[test]
@@ -119,7 +120,7 @@ mod tests {
         let text = 16 + 2 + head.len();
         file[RECORD + 3] = text as u8;
         file[SECTION + 7] = (12 + text + record.len()) as u8;
-        assert_eq!(model::read(&file, [usize::MAX; 9]).rows.used()[0], 2);
+        assert_eq!(read_all(&file).rows.used()[0], 2);
         assert!(matches!(held(&file), Held::Nothing));
     }
 }

@@ -1,6 +1,7 @@
 //! Loads by every subject and by the original, held against each other.
 
 use crate::Stop;
+use crate::allowance::{self, Met, Seen, is_desktops, nowhere_smaller, read_all};
 use crate::args::Args;
 use crate::expected;
 use crate::generate::{FAMILIES, Generator, state_size};
@@ -11,17 +12,17 @@ use crate::rng::Rng;
 use crate::subject::{Subject, answers_as, subjects};
 use crate::visits;
 use model::{
-    Entry, HEADER, Loaded, NAMES, NO_PARENT, RECORD_WORDS, ROW_WORDS, Record, Refusal, Rows, Sizes,
-    TREE_WORDS, Tables,
+    Allowance, Entry, HEADER, Loaded, NAMES, NO_PARENT, RECORD_WORDS, ROW_WORDS, Reading, Record,
+    Refusal, Rows, Sizes, TREE_WORDS, Tables,
 };
 use original::Error;
-use std::collections::BTreeMap;
+use std::collections::{BTreeMap, BTreeSet};
 use std::path::PathBuf;
 use std::sync::Mutex;
 use std::time::{Duration, Instant};
 use std::{env, fs, process, thread};
 
-/// The answers of a load: 0, paper 01's refusals, paper 02's of files that are not pattern files.
+/// The answers of a load under the desktop's allowance: 0, paper 01's refusals, paper 02's of files that are not pattern files.
 pub const ANSWERS: [Refusal; 17] = [0, 1, 2, 3, 4, 5, 6, 7, 8, 9, 10, 11, 12, 13, 14, 27, 28];
 
 /// What is counted over the files of a run.
@@ -38,6 +39,8 @@ pub struct Counts {
     pool_kinds: [u64; 8],
     shapes: BTreeMap<&'static str, u64>,
     lent: BTreeMap<&'static str, u64>,
+    /// Files by what they meet under other allowances, and by their number under the desktop's.
+    allowed: BTreeMap<Seen, BTreeMap<Refusal, u64>>,
 }
 
 impl Counts {
@@ -81,6 +84,23 @@ impl Counts {
             text += &format!("  {shape:<22}{files:>7}\n");
         }
         text += &format!("loads over lent tables of other sizes: {:?}\n", self.lent);
+        text += &self.allowed_words();
+        text
+    }
+
+    /// The counts of files under other allowances in words.
+    fn allowed_words(&self) -> String {
+        let mut text =
+            "files under other allowances (by their answer under the desktop's):\n".to_owned();
+        for (seen, by_number) in &self.allowed {
+            let files: u64 = by_number.values().sum();
+            let by_number: Vec<String> = by_number
+                .iter()
+                .map(|(number, files)| format!("{} {files}", answer_words(*number)))
+                .collect();
+            let (name, by_number) = (seen.name(), by_number.join(", "));
+            text += &format!("  {name:<24}{files:>9}  {by_number}\n");
+        }
         text
     }
 
@@ -135,6 +155,18 @@ impl Counts {
         );
         has("depth above 2", records.iter().any(|r| r.depth > 2));
         has("passing", model::passes(file, rows).is_ok());
+    }
+
+    /// Counts a file of this number by what it meets under other allowances.
+    fn count_allowed(&mut self, number: Refusal, seen: BTreeSet<Seen>) {
+        for seen in seen {
+            *self
+                .allowed
+                .entry(seen)
+                .or_default()
+                .entry(number)
+                .or_default() += 1;
+        }
     }
 
     fn count(&mut self, number: Refusal, held: &Held, end: Option<&'static str>, tables: &Tables) {
@@ -310,7 +342,7 @@ pub fn make(args: &Args) -> Result<(), Stop> {
     let mut written = 0;
     for index in first..first + files {
         let (_, file) = generator.file(seed, index);
-        let number = model::read(&file, [usize::MAX; 9]).end.err().unwrap_or(0);
+        let number = read_all(&file).end.err().unwrap_or(0);
         if wanted.is_some_and(|wanted| wanted != u64::from(number)) {
             continue;
         }
@@ -399,7 +431,7 @@ pub fn garbage(sizes: &Sizes, rng: &mut Rng) -> Tables {
 
 /// Holds a number against the original's readers of this file and its load; answers how its load ends, where it is called.
 fn by_original(number: Refusal, file: &[u8]) -> Result<Option<Outcome<'_>>, String> {
-    let exact = oracle::number(file);
+    let exact = oracle::number(file, Allowance::DESKTOP);
     if exact != number {
         return Err(format!(
             "the model answers {number}, the original's readers {exact}"
@@ -417,7 +449,7 @@ fn by_original(number: Refusal, file: &[u8]) -> Result<Option<Outcome<'_>>, Stri
     Ok(outcome)
 }
 
-/// Holds every subject against the original on one file, or on its twin; answers the number.
+/// Holds every subject against the original on one file, or on its twin, and under other allowances than the desktop's; answers the number.
 pub fn one(
     subjects: &[Box<dyn Subject>],
     file: &[u8],
@@ -425,7 +457,7 @@ pub fn one(
     counts: &mut Counts,
 ) -> Result<Refusal, String> {
     at_work(file);
-    let reading = model::read(file, [usize::MAX; 9]);
+    let reading = read_all(file);
     let needed = reading.rows.used();
     let number = reading.end.err().unwrap_or(0);
     let visits = match number {
@@ -443,7 +475,7 @@ pub fn one(
             *words += rng.below(row);
         }
         let mut tables = garbage(&sizes, rng);
-        let answer = subject.load(file, &mut tables);
+        let answer = subject.load(file, Allowance::DESKTOP, &mut tables);
         let name = subject.name();
         if answer.refusal != number {
             return Err(format!("{name} answers {}, not {number}", answer.refusal));
@@ -479,11 +511,14 @@ pub fn one(
         }
     }
     if held.is_left_out() {
-        let fitting = Sizes::of_rows(needed);
-        as_model(subjects, file, &fitting, &model::load(file, &fitting), rng)?;
+        let sizes = Sizes::of_rows(needed);
+        let allowance = Allowance::DESKTOP;
+        let right = model::load(file, allowance, &sizes);
+        as_model(subjects, file, allowance, &sizes, &right, rng)?;
     }
     let sizes = other_sizes(needed, rng);
     lent(subjects, file, number, needed, &sizes, rng, counts)?;
+    allowed(subjects, file, &reading, bytes, rng, counts)?;
     Ok(number)
 }
 
@@ -547,29 +582,97 @@ fn lent(
         (true, _) => "refused",
     };
     *counts.lent.entry(kind).or_default() += 1;
-    let loaded = model::load(file, sizes);
+    let loaded = model::load(file, Allowance::DESKTOP, sizes);
     if loaded.refusal != right {
         return Err(format!(
             "over {:?} words the model answers {}, not {right}",
             sizes.0, loaded.refusal
         ));
     }
-    as_model(subjects, file, sizes, &loaded, rng)
+    as_model(subjects, file, Allowance::DESKTOP, sizes, &loaded, rng)
 }
 
-/// Holds every subject over lent tables against the model's answer word for word.
+/// Holds every subject on a file that is read so under two allowances, of which the second is nowhere smaller; for the original the bytes that are held
+/// stand.
+fn allowed(
+    subjects: &[Box<dyn Subject>],
+    file: &[u8],
+    reading: &Reading,
+    held: Option<&[u8]>,
+    rng: &mut Rng,
+    counts: &mut Counts,
+) -> Result<(), String> {
+    let own = allowance::own(file.len(), reading.rows.used()[0]);
+    let small = allowance::any(own, rng);
+    let large = nowhere_smaller(small, own, rng);
+    let sizes = Met::of(file, reading, small).sizes(rng);
+    let desktop = model::load(file, Allowance::DESKTOP, &sizes);
+    let mut seen = BTreeSet::new();
+    let mut answers = Vec::new();
+    for allowance in [small, large] {
+        let met = Met::of(file, reading, allowance);
+        let under = |why| format!("under {allowance:?} over {:?} words {why}", sizes.0);
+        if let Some(bytes) = held {
+            by_readers(bytes, allowance, &met).map_err(under)?;
+        }
+        let loaded = model::load(file, allowance, &sizes);
+        by_rule(&loaded, allowance, met.over(&sizes), &desktop).map_err(under)?;
+        as_model(subjects, file, allowance, &sizes, &loaded, rng)?;
+        seen.extend(met.seen(allowance, own, &sizes));
+        answers.push(loaded);
+    }
+    // "A file accepted under one gives the same rows in the same tables under any that is nowhere smaller."
+    if answers[0].refusal == 0 && answers[0] != answers[1] {
+        return Err(format!(
+            "accepted under {small:?}, and under {large:?} not, or with other rows"
+        ));
+    }
+    counts.count_allowed(reading.end.err().unwrap_or(0), seen);
+    Ok(())
+}
+
+/// Holds what a file meets under an allowance against the original's readers.
+fn by_readers(file: &[u8], allowance: Allowance, met: &Met) -> Result<(), String> {
+    let exact = oracle::number(file, allowance);
+    if exact != met.number {
+        return Err(format!(
+            "the rule for 29 gives {}, the original's readers {exact}",
+            met.number
+        ));
+    }
+    Ok(())
+}
+
+/// Holds the model's load under an allowance against the rule's number, and against the desktop's answer where it must be the same.
+fn by_rule(
+    loaded: &Loaded,
+    allowance: Allowance,
+    right: Refusal,
+    desktop: &Loaded,
+) -> Result<(), String> {
+    if loaded.refusal != right {
+        return Err(format!("the model answers {}, not {right}", loaded.refusal));
+    }
+    if (right == 0 || is_desktops(allowance)) && loaded != desktop {
+        return Err("the model answers otherwise than under the desktop's allowance".to_owned());
+    }
+    Ok(())
+}
+
+/// Holds every subject under an allowance over lent tables against the model's answer word for word.
 fn as_model(
     subjects: &[Box<dyn Subject>],
     file: &[u8],
+    allowance: Allowance,
     sizes: &Sizes,
     right: &Loaded,
     rng: &mut Rng,
 ) -> Result<(), String> {
     for subject in subjects {
         let mut tables = garbage(sizes, rng);
-        let answer = subject.load(file, &mut tables);
+        let answer = subject.load(file, allowance, &mut tables);
         answers_as(subject.name(), answer, &tables, right)
-            .map_err(|why| format!("over {:?} words {why}", sizes.0))?;
+            .map_err(|why| format!("under {allowance:?} over {:?} words {why}", sizes.0))?;
     }
     Ok(())
 }

@@ -1,12 +1,13 @@
 //! The seven lookups: the port held against the model over the tables of loads and over tables of any words.
 
 use crate::Stop;
+use crate::allowance::read_all;
 use crate::args::Args;
 use crate::generate::Generator;
 use crate::load::{at_work, corpus, difference, watch};
 use crate::rng::Rng;
 use crate::subject::{Found, LOOKUPS, Lookup, Subject, subjects};
-use model::{ROW_WORDS, Record, Rows, Sizes, Tables};
+use model::{Allowance, ROW_WORDS, Record, Rows, Sizes, Tables};
 
 /// Lookups of each kind, and how many of them were refused.
 type Counts = [[u64; 2]; 7];
@@ -110,14 +111,14 @@ fn after_load(
     counts: &mut Counts,
 ) -> Result<u64, String> {
     at_work(file);
-    let reading = model::read(file, [usize::MAX; 9]);
+    let reading = read_all(file);
     let records = &reading.rows.records.rows;
     // Many records have as many lookups each; a few files of them are enough elsewhere.
     if reading.end.is_err() || records.len() > 200 {
         return Ok(0);
     }
     let sizes = Sizes::of_rows(reading.rows.used());
-    let tables = model::load(file, &sizes).tables;
+    let tables = model::load(file, Allowance::DESKTOP, &sizes).tables;
     for (lookup, number, index) in of_load(&reading.rows) {
         let found = hold(subjects, lookup, file, &tables, number, index, counts)?;
         // A load's rows point at what they were loaded from.
@@ -163,7 +164,7 @@ pub fn of_load(rows: &Rows) -> Vec<(Lookup, u32, u32)> {
 
 /// A file and tables of any words: random, small, or those of its load with changes; of any lengths.
 pub fn hostile_tables(file: &[u8], rng: &mut Rng) -> (Vec<u8>, Tables) {
-    let loaded = model::read(file, [usize::MAX; 9]);
+    let loaded = read_all(file);
     let lent = Sizes::of_rows(loaded.rows.used());
     if loaded.end.is_ok() && !rng.one_in(3) {
         let mut tables = loaded.rows.loaded(&lent).tables;

@@ -1,5 +1,7 @@
 //! Holds the papers' model, and the port where it is linked, against the original.
 
+mod allowance;
+mod allowed;
 mod args;
 #[cfg(feature = "port")]
 mod bench;

@@ -1,7 +1,7 @@
 //! The original's answer: of its `load`, and of its readers section by section, which tell the numbers apart.
 
 use crate::quiet::inside;
-use model::{HEADER, Refusal};
+use model::{Allowance, HEADER, Refusal};
 use original::Error;
 use original::marker::{DBG, END, IREP, LVAR};
 use original::rite::rite::{self, Irep, Rite};
@@ -24,18 +24,21 @@ pub const NO_ROW: Refusal = 14;
 const OTHER_IDENT: Refusal = 27;
 /// "28 when the header's size exceeds the file's length"
 const SIZE_TOO_LARGE: Refusal = 28;
+/// "29 when the file or its record number is beyond the caller's allowance but within the desktop's"
+pub const BEYOND: Refusal = 29;
 
 /// The numbers of which the original says nothing: their rules are the comparison's own.
-pub const OWN_RULE: [Refusal; 3] = [TOO_LONG, OTHER_IDENT, SIZE_TOO_LARGE];
+pub const OWN_RULE: [Refusal; 4] = [TOO_LONG, OTHER_IDENT, SIZE_TOO_LARGE, BEYOND];
 
 /// The numbers on which the original's `load` is not called: outside the domain, or it never ends.
-const NOT_CALLED: [Refusal; 6] = [
+const NOT_CALLED: [Refusal; 7] = [
     TOO_LONG,
     SECTION_ORDER,
     SIZE_0,
     NO_ROW,
     OTHER_IDENT,
     SIZE_TOO_LARGE,
+    BEYOND,
 ];
 
 /// How a load by the original ends.
@@ -123,9 +126,13 @@ impl End {
     }
 }
 
-/// The number that the papers give to a file without zeros inside pool strings, 0 for a load, by the original's own readers of one section each.
-pub fn number(file: &[u8]) -> Refusal {
-    match header(file).and_then(|()| sections(&file[HEADER..])) {
+/// The number that the papers give under an allowance to a file without zeros inside pool strings, 0 for a load, by the original's own readers of one
+/// section each.
+pub fn number(file: &[u8], allowance: Allowance) -> Refusal {
+    let records = allowance.records as usize;
+    match header(file, allowance.bytes as usize)
+        .and_then(|()| sections(&file[HEADER..], records.min(RECORD_LIMIT)))
+    {
         Ok(()) => 0,
         Err(number) => number,
     }
@@ -133,7 +140,7 @@ pub fn number(file: &[u8]) -> Refusal {
 
 /// Holds that the original refuses a file by a string's zero rule: its readers by their number, its `load` by its end.
 pub fn breaks_zero_rule(file: &[u8]) -> Result<(), String> {
-    let exact = number(file);
+    let exact = number(file, Allowance::DESKTOP);
     let outcome = load(file);
     if exact != ZERO_RULE || !matches!(outcome, Outcome::Refused(Error::InvalidFormat)) {
         return Err(format!(
@@ -145,9 +152,12 @@ pub fn breaks_zero_rule(file: &[u8]) -> Result<(), String> {
 }
 
 /// The tests that come before the sections; Err is the number.
-fn header(file: &[u8]) -> Result<(), Refusal> {
+fn header(file: &[u8], allowed: usize) -> Result<(), Refusal> {
     if file.len() > FILE_LIMIT {
         return Err(TOO_LONG);
+    }
+    if file.len() > allowed {
+        return Err(BEYOND);
     }
     if file.len() >= HEADER {
         ident_and_size(file)?;
@@ -176,8 +186,8 @@ fn ident_and_size(file: &[u8]) -> Result<(), Refusal> {
     Ok(())
 }
 
-/// Reads the sections in turn; Err is the number.
-fn sections(mut head: &[u8]) -> Result<(), Refusal> {
+/// Reads the sections in turn, and at most so many records; Err is the number.
+fn sections(mut head: &[u8], most: usize) -> Result<(), Refusal> {
     let mut records: Vec<Irep> = Vec::new();
     let mut begun = Vec::new();
     while let Some(mark) = rite::peek4(head) {
@@ -190,7 +200,7 @@ fn sections(mut head: &[u8]) -> Result<(), Refusal> {
         begun.push(mark);
         let size = match mark {
             IREP => {
-                let (size, read) = irep(head)?;
+                let (size, read) = irep(head, most)?;
                 records = read;
                 size
             }
@@ -215,8 +225,8 @@ fn four(bytes: &[u8]) -> usize {
     u32::from_be_bytes(bytes[..4].try_into().unwrap()) as usize
 }
 
-/// IREP; no call is made that reads a record of size 0 for ever or more records than the limit.
-fn irep(head: &[u8]) -> Result<(usize, Vec<Irep<'_>>), Refusal> {
+/// IREP; no call is made that reads a record of size 0 for ever or more records than the most.
+fn irep(head: &[u8], most: usize) -> Result<(usize, Vec<Irep<'_>>), Refusal> {
     // The only `InvalidFormat` of IREP is a string's.
     let read = |head| section(|| rite::section_irep_1(head)).map_err(|end| end.number(ZERO_RULE));
     if head.len() >= 12 && four(&head[4..]) <= head.len() {
@@ -225,15 +235,19 @@ fn irep(head: &[u8]) -> Result<(usize, Vec<Irep<'_>>), Refusal> {
         let mut count = 0;
         while place < size && place + 4 <= head.len() {
             let stated = four(&head[place..]);
-            if count == RECORD_LIMIT || stated == 0 {
+            if count == most || stated == 0 {
                 if place > 12 {
                     let mut before = head.to_vec();
                     before[4..8].copy_from_slice(&(place as u32).to_be_bytes());
                     section(|| rite::section_irep_1(&before).map(|_| ()))
                         .map_err(|end| end.number(ZERO_RULE))?;
                 }
-                if count == RECORD_LIMIT {
-                    return Err(if head.len() - place < 16 { 7 } else { NO_ROW });
+                if count == most {
+                    return Err(match most {
+                        _ if head.len() - place < 16 => 7,
+                        RECORD_LIMIT => NO_ROW,
+                        _ => BEYOND,
+                    });
                 }
                 // The record of size 0 stands alone, with size 1.
                 let mut alone = b"IREP\0\0\0\x0d\0\0\0\0\0\0\0\x01".to_vec();

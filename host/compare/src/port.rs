@@ -3,7 +3,7 @@
 use crate::subject::{Answer, Fetch, Follow, Found, Lookup, Subject, float_bits};
 use blotheath::answer::{BlotheathConstant, BlotheathLoaded};
 use blotheath::ffi;
-use model::Tables;
+use model::{Allowance, Tables};
 
 /// The archive libblotheath.a.
 pub struct Port;
@@ -13,22 +13,23 @@ impl Subject for Port {
         "port"
     }
 
-    fn load(&self, file: &[u8], tables: &mut Tables) -> Answer {
-        answer(ffi::load(file, tables))
+    fn load(&self, file: &[u8], allowance: Allowance, tables: &mut Tables) -> Answer {
+        answer(ffi::load(file, of(allowance), tables))
     }
 
-    fn examine(&self, file: &[u8], tables: &mut Tables) -> Answer {
-        answer(ffi::examine(file, tables))
+    fn examine(&self, file: &[u8], allowance: Allowance, tables: &mut Tables) -> Answer {
+        answer(ffi::examine(file, of(allowance), tables))
     }
 
     fn follow(
         &self,
         file: &[u8],
+        allowance: Allowance,
         tables: &mut Tables,
         frames: &mut Vec<u32>,
         choices: &[u8],
     ) -> Follow {
-        let r = ffi::follow(file, tables, frames, choices);
+        let r = ffi::follow(file, of(allowance), tables, frames, choices);
         Follow {
             refusal: r.refusal,
             numbers: [r.finished, r.record, r.offset, r.found, r.line, r.frames],
@@ -85,6 +86,12 @@ impl Subject for Port {
         let r = ffi::line_at(map, position);
         (r.found != 0).then_some(r.line)
     }
+}
+
+/// The allowance as the host's library has it.
+fn of(allowance: Allowance) -> blotheath::Allowance {
+    let Allowance { bytes, records } = allowance;
+    blotheath::Allowance { bytes, records }
 }
 
 fn answer(loaded: BlotheathLoaded) -> Answer {

@@ -456,6 +456,7 @@ fn order() -> Vec<Examined> {
 #[cfg(test)]
 mod tests {
     use super::*;
+    use crate::allowance::read_all;
     use crate::generate::tests::{passing_or_17, past_counts};
     use crate::generate::{all_steps, needed_by_step};
     use crate::prefixes::named;
@@ -511,7 +512,7 @@ mod tests {
         });
         let files = files.filter(|(_, answer)| [0, 17].contains(answer));
         let stepped = files.map(|(file, answer)| {
-            let rows = model::read(&file, [usize::MAX; 9]).rows;
+            let rows = read_all(&file).rows;
             stepped(&file, &rows, answer == 17)
         });
         stepped.collect()

@@ -13,6 +13,11 @@ impl Rng {
         rng
     }
 
+    /// Another sequence, which leaves this one where it is.
+    pub fn beside(&self) -> Rng {
+        Rng(!self.0)
+    }
+
     /// The next 64 bits.
     pub fn next(&mut self) -> u64 {
         self.0 = self.0.wrapping_add(0x9e37_79b9_7f4a_7c15);

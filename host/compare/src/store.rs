@@ -12,6 +12,8 @@
 //!                           refusal's number or 0, rows used, visits of the LVAR walk, the sum of all lent words afterwards
 //! 3 N KIND A B C            a fetch from these bytes: refusal's number or 0, operand kind, operands
 //! 4 WORDS P0 L0 P1 L1 ..    words: how many, then a map's positions and lines, or the lengths of nine tables and their words
+//! 4 2 BYTES RECORDS         words before loads, examinations and follows: the allowance of those behind them
+//! 4 0                       no words: the allowance is the desktop's, as at the start
 //! 5 POS FOUND LINE          a line lookup in this map: position, 1 or 0 for none, line or 0
 //! 6 LENGTH NAME             the end of a group of answers, and its name
 //! 7 W0 .. W8 N R0 .. R8 V S an examination of these bytes, as a load
@@ -26,17 +28,20 @@
 //!
 //! The nine tables are those of `model::NAMES`, always in this order, with rows of `model::ROW_WORDS` words. The first has at most three rows more
 //! than 1,024, the others 8,192 words.
-//! A frame table has at most 2,048 words. There are at most 512 words of kind 4. The kinds 0 to 7 are Z, B, BB, S, BBB, BS, W, BSS.
+//! A frame table has at most 2,048 words. There are at most 512 words of kind 4. A load, an examination or a follow is under the allowance of the words
+//! that stand last if they are two, else under the desktop's. The kinds 0 to 7 are Z, B, BB, S, BBB, BS, W, BSS.
 //! Lookups are numbered from 0: instructions, handler, pool, symbol, name, debug file, line.
 //! The sum begins with 0; for each word w, table by table, it becomes (sum * 65599 + w + 1) modulo 4294967291.
 //! A replay fills the lent words with anything but the answer before each call, so that the sum shows every word written.
 //!
-//! Answers of load are the model's, held against the original before they are stored; 1, 6, 8, 14, 27 and 28 have no counterpart there,
+//! Answers of load are the model's, held against the original before they are stored; 1, 6, 8, 14, 27, 28 and 29 have no counterpart there,
 //! and for files with zeros inside pool strings their twins are held (`held.rs`).
 //! Answers of fetch and of line lookups in maps are the original's. Those of examination, follow and the seven lookups are the model's:
 //! the original has none of them.
 
 use crate::Stop;
+use crate::allowance::read_all;
+use crate::allowed::{self, Allowed, Asked};
 use crate::args::Args;
 use crate::chosen;
 use crate::examine::NOT_PASSING;
@@ -55,7 +60,8 @@ use crate::sample::{Examined, FINISHED, Run, stands_at};
 use crate::subject::{Answer, Fetch, Follow, Found, LOOKUPS, Lookup, Model, Subject, subjects};
 use crate::visits;
 use model::{
-    FILE_LIMIT, HEADER, OPCODES, RECORD_LIMIT, RECORD_WORDS, ROW_WORDS, Refusal, Sizes, Tables,
+    Allowance, FILE_LIMIT, HEADER, OPCODES, RECORD_LIMIT, RECORD_WORDS, ROW_WORDS, Refusal, Sizes,
+    Tables,
 };
 use original::rite::rite::line_at;
 use std::collections::BTreeMap;
@@ -96,6 +102,7 @@ pub fn write(args: &Args) -> Result<(), Stop> {
     chosen_samples(&mut calls).map_err(Stop::Difference)?;
     visited_samples(&mut calls).map_err(Stop::Difference)?;
     nested_samples(&mut calls).map_err(Stop::Difference)?;
+    allowed_samples(&mut calls).map_err(Stop::Difference)?;
     loads(&mut calls, seed, count as usize, &mut counts).map_err(Stop::Difference)?;
     examinable_files(&mut calls, seed)?;
     let mut lookups = Store::default();
@@ -108,12 +115,36 @@ pub fn write(args: &Args) -> Result<(), Stop> {
     lookups.end(args, "--lookups")
 }
 
-#[derive(Default)]
 struct Store {
     bytes: Vec<u8>,
+    /// The allowance of the calls that come next.
+    allowance: Allowance,
+}
+
+impl Default for Store {
+    fn default() -> Store {
+        Store {
+            bytes: Vec::new(),
+            allowance: Allowance::DESKTOP,
+        }
+    }
 }
 
 impl Store {
+    /// Puts the calls that come next under an allowance.
+    fn allow(&mut self, allowance: Allowance) {
+        if allowance == self.allowance {
+            return;
+        }
+        self.allowance = allowance;
+        let Allowance { bytes, records } = allowance;
+        if allowance == Allowance::DESKTOP {
+            self.item(4, [0]);
+        } else {
+            self.item(4, [2, bytes, records]);
+        }
+    }
+
     fn item(&mut self, kind: u32, numbers: impl IntoIterator<Item = u32>) {
         self.bytes.extend(kind.to_be_bytes());
         for number in numbers {
@@ -358,7 +389,7 @@ fn chosen_samples(store: &mut Store) -> Result<(), String> {
 /// Examinations of files over tables that fit them.
 fn sample_examinations(store: &mut Store, files: &[Examined]) -> Result<(), String> {
     for (file, refusal) in files {
-        let used = model::read(file, [usize::MAX; 9]).rows.used();
+        let used = read_all(file).rows.used();
         let rows = match refusal {
             0 => used.map(|rows| rows as u32),
             _ => [0; 9],
@@ -390,7 +421,7 @@ fn visited_samples(store: &mut Store) -> Result<(), String> {
 /// Loads and examinations of trees of every shape, with the depths and parents of request a), and a row that no record uses.
 fn nested_samples(store: &mut Store) -> Result<(), String> {
     for nested in parents::files() {
-        let rows = model::read(&nested.file, [usize::MAX; 9]).rows;
+        let rows = read_all(&nested.file).rows;
         let records = rows.records.rows.iter();
         let places: Vec<[u32; 2]> = records.map(|r| [r.depth, r.parent]).collect();
         if places != nested.places {
@@ -408,11 +439,50 @@ fn nested_samples(store: &mut Store) -> Result<(), String> {
     Ok(())
 }
 
+/// Calls on files under allowances, with the answers of request h).
+fn allowed_samples(store: &mut Store) -> Result<(), String> {
+    for allowed in allowed::files() {
+        store.bytes(1, &allowed.file);
+        calls_under_allowances(store, &allowed)?;
+    }
+    store.bytes(6, b"allowances, loaded, examined and followed");
+    Ok(())
+}
+
+/// Calls under allowances on the file that stands last.
+fn calls_under_allowances(store: &mut Store, allowed: &Allowed) -> Result<(), String> {
+    for call in &allowed.calls {
+        store.allow(call.allowance);
+        let sizes = call.sizes();
+        let kind = match &call.asked {
+            Asked::Load => 2,
+            Asked::Examination => 7,
+            Asked::Run(words, choices, right) => {
+                let right = Follow {
+                    refusal: call.refusal,
+                    numbers: if call.refusal == 0 { *right } else { [0; 6] },
+                };
+                sample_run(store, &sizes, *words, &allowed.file, choices, right)?;
+                continue;
+            }
+        };
+        let loads = u32::from(call.refusal == 0);
+        let right = Answer {
+            refusal: call.refusal,
+            rows: of_records(loads * allowed.records),
+            visits: 0,
+        };
+        sample_again(store, kind, &sizes, &allowed.file, right)?;
+    }
+    store.allow(Allowance::DESKTOP);
+    Ok(())
+}
+
 /// A file that has nothing but records and names, loaded and examined over so many rows of records.
 fn tree_sample(store: &mut Store, file: &[u8], records: u32, right: Answer) -> Result<(), String> {
     let sizes = Sizes::of_rows(of_records(records).map(|rows| rows as usize));
     sample_over(store, 2, &sizes, file, right)?;
-    let rows = model::read(file, [usize::MAX; 9]).rows;
+    let rows = read_all(file).rows;
     let examined = match model::passes(file, &rows) {
         Ok(()) => right,
         Err(refusal) => Answer {
@@ -463,11 +533,11 @@ fn sample_again(
     replayable(sizes)?;
     let mut tables = garbage(sizes, &mut Rng::new(0, 0));
     let answer = match kind {
-        2 => Model.load(file, &mut tables),
-        _ => Model.examine(file, &mut tables),
+        2 => Model.load(file, store.allowance, &mut tables),
+        _ => Model.examine(file, store.allowance, &mut tables),
     };
     if answer != right {
-        return Err(format!("a sample's answer is {answer:?}"));
+        return Err(format!("a sample's answer is {answer:?}, not {right:?}"));
     }
     store.call(kind, sizes, of_load(&answer), sum(&tables, &[]));
     Ok(())
@@ -475,19 +545,36 @@ fn sample_again(
 
 /// Runs of a file that are not refused, over tables of a row at least and with place for a frame of each record.
 fn sample_runs(store: &mut Store, file: &[u8], runs: &[Run]) -> Result<(), String> {
-    let used = model::read(file, [usize::MAX; 9]).rows.used();
+    let used = read_all(file).rows.used();
     let sizes = Sizes::of_rows(used.map(|rows| rows.max(1)));
     replayable(&sizes)?;
     store.bytes(1, file);
     for (choices, numbers) in runs {
-        let mut tables = garbage(&sizes, &mut Rng::new(0, 0));
-        let mut frames = vec![1; 2 * used[RECORDS]];
-        let answer = Model.follow(file, &mut tables, &mut frames, choices);
-        if (answer.refusal, answer.numbers) != (0, *numbers) {
-            return Err(format!("along {choices:?} a sample's answer is {answer:?}"));
-        }
-        store.follow(&sizes, &answer, &tables, &frames, choices);
+        let right = Follow {
+            refusal: 0,
+            numbers: *numbers,
+        };
+        sample_run(store, &sizes, 2 * used[RECORDS], file, choices, right)?;
     }
+    Ok(())
+}
+
+/// A run of the file that stands last, over so many words of frames.
+fn sample_run(
+    store: &mut Store,
+    sizes: &Sizes,
+    words: usize,
+    file: &[u8],
+    choices: &[u8],
+    right: Follow,
+) -> Result<(), String> {
+    let mut tables = garbage(sizes, &mut Rng::new(0, 0));
+    let mut frames = vec![1; words];
+    let answer = Model.follow(file, store.allowance, &mut tables, &mut frames, choices);
+    if answer != right {
+        return Err(format!("along {choices:?} a sample's answer is {answer:?}"));
+    }
+    store.follow(sizes, &answer, &tables, &frames, choices);
     Ok(())
 }
 
@@ -514,7 +601,7 @@ fn loads(store: &mut Store, seed: u64, count: usize, counts: &mut Counts) -> Res
             break;
         }
         let (_, file) = generator.file(seed, index);
-        let reading = model::read(&file, [usize::MAX; 9]);
+        let reading = read_all(&file);
         let number = reading.end.err().unwrap_or(0);
         let used = reading.rows.used();
         // Room is left for the rows that other sizes add.
@@ -542,6 +629,7 @@ fn loads(store: &mut Store, seed: u64, count: usize, counts: &mut Counts) -> Res
         }
         *left -= 1;
         one_file(&mut group.store, &file, &mut Rng::new(!seed, index), counts)?;
+        group.last = file;
     }
     for (number, group) in groups {
         store.bytes.extend(&group.store.bytes);
@@ -550,6 +638,11 @@ fn loads(store: &mut Store, seed: u64, count: usize, counts: &mut Counts) -> Res
             n => format!("generated files of {n}"),
         };
         store.bytes(6, name.as_bytes());
+        if number == TOO_LONG {
+            // Its many bytes are not stored again.
+            calls_under_allowances(store, &allowed::too_long(group.last))?;
+            store.bytes(6, b"the file of 1, loaded under allowances");
+        }
     }
     Ok(())
 }
@@ -566,6 +659,8 @@ fn is_stored(number: Refusal, file: &[u8]) -> bool {
 struct Group {
     store: Store,
     left: usize,
+    /// The file that stands last.
+    last: Vec<u8>,
 }
 
 impl Group {
@@ -579,8 +674,11 @@ impl Group {
             NO_ROW => 0,
             _ => refused / (ANSWERS.len() - 2) + 1,
         };
-        let store = Store::default();
-        Group { store, left }
+        Group {
+            store: Store::default(),
+            left,
+            last: Vec::new(),
+        }
     }
 }
 
@@ -595,7 +693,7 @@ fn one_file(
     // What is stored does not depend on how many subjects there are.
     let mut other = Rng::new(rng.next(), 0);
     let number = one(&subjects, file, &mut other, counts)?;
-    let reading = model::read(file, [usize::MAX; 9]);
+    let reading = read_all(file);
     let held = Held::of(file, &reading)?;
     let bytes = held.bytes(file);
     let outcome = bytes.and_then(|bytes| oracle::load_of(number, bytes));
@@ -609,7 +707,7 @@ fn one_file(
     for sizes in &lent {
         replayable(sizes)?;
         let mut tables = garbage(sizes, rng);
-        let answer = Model.load(file, &mut tables);
+        let answer = Model.load(file, Allowance::DESKTOP, &mut tables);
         if answer.refusal == 0
             && let (Some(bytes), Some(Outcome::Loaded(rite))) = (bytes, &outcome)
         {
@@ -630,11 +728,11 @@ fn replayable(sizes: &Sizes) -> Result<(), String> {
 
 /// Examinations of the file that stands last: over tables that fit it, and over any.
 fn examinations(store: &mut Store, file: &[u8], rng: &mut Rng) -> Result<(), String> {
-    let needed = model::read(file, [usize::MAX; 9]).rows.used();
+    let needed = read_all(file).rows.used();
     for sizes in [Sizes::of_rows(needed), other_sizes(needed, rng)] {
         replayable(&sizes)?;
         let mut tables = garbage(&sizes, rng);
-        let answer = Model.examine(file, &mut tables);
+        let answer = Model.examine(file, Allowance::DESKTOP, &mut tables);
         store.call(7, &sizes, of_load(&answer), sum(&tables, &[]));
     }
     Ok(())
@@ -642,7 +740,7 @@ fn examinations(store: &mut Store, file: &[u8], rng: &mut Rng) -> Result<(), Str
 
 /// Runs of the file that stands last, along any choices.
 fn runs(store: &mut Store, file: &[u8], number: usize, rng: &mut Rng) -> Result<(), String> {
-    let needed = model::read(file, [usize::MAX; 9]).rows.used();
+    let needed = read_all(file).rows.used();
     let sizes = Sizes::of_rows(needed);
     replayable(&sizes)?;
     for _ in 0..number {
@@ -651,7 +749,7 @@ fn runs(store: &mut Store, file: &[u8], number: usize, rng: &mut Rng) -> Result<
         choices.truncate(60);
         let mut tables = garbage(&sizes, rng);
         let mut frames = vec![1; words];
-        let followed = Model.follow(file, &mut tables, &mut frames, &choices);
+        let followed = Model.follow(file, Allowance::DESKTOP, &mut tables, &mut frames, &choices);
         store.follow(&sizes, &followed, &tables, &frames, &choices);
     }
     Ok(())
@@ -671,7 +769,7 @@ fn examinable_files(store: &mut Store, seed: u64) -> Result<(), Stop> {
             } else {
                 generator.examinable(seed, index)
             };
-            let reading = model::read(&file, [usize::MAX; 9]);
+            let reading = read_all(&file);
             let examined = reading
                 .end
                 .and_then(|()| model::passes(&file, &reading.rows));
@@ -733,7 +831,7 @@ fn constant_samples(store: &mut Store) -> Result<(), String> {
     }
     let count = [0, constants.len() as u8];
     let file = file_a_with(&[&count[..], &constants.concat(), &[0, 0]].concat(), &[]);
-    let reading = model::read(&file, [usize::MAX; 9]);
+    let reading = read_all(&file);
     let tables = reading
         .rows
         .loaded(&Sizes::of_rows(reading.rows.used()))
@@ -763,7 +861,7 @@ fn looked_up(store: &mut Store, seed: u64) -> Result<(), Stop> {
             break;
         }
         let (_, file) = generator.file(seed, index);
-        let reading = model::read(&file, [usize::MAX; 9]);
+        let reading = read_all(&file);
         let used = reading.rows.used();
         let lent = Sizes::of_rows(used);
         // Few rows, and of most tables some.
@@ -944,6 +1042,14 @@ fn tables_of(words: &[u32]) -> Result<Tables, String> {
     Ok(tables)
 }
 
+/// The allowance that the words which stand last are.
+fn allowance_of(words: &[u32]) -> Allowance {
+    match *words {
+        [bytes, records] => Allowance { bytes, records },
+        _ => Allowance::DESKTOP,
+    }
+}
+
 /// Replays stored answers with a subject; answers each group's name and number of answers.
 fn replay_items(subject: &dyn Subject, stored: &[u8]) -> Result<Vec<(String, usize)>, String> {
     let mut rng = Rng::new(0, 0);
@@ -953,6 +1059,7 @@ fn replay_items(subject: &dyn Subject, stored: &[u8]) -> Result<Vec<(String, usi
     let mut bytes: &[u8] = &[];
     let mut map = Vec::new();
     loop {
+        let allowance = allowance_of(&map);
         let at = stored.len() - items.left.len();
         let wrong =
             |answer: &dyn std::fmt::Debug| Err(format!("byte {at}: the answer is {answer:?}"));
@@ -970,8 +1077,8 @@ fn replay_items(subject: &dyn Subject, stored: &[u8]) -> Result<Vec<(String, usi
                 let [visits, stored] = items.numbers()?;
                 let mut tables = garbage(&sizes, &mut rng);
                 let answer = match kind {
-                    2 => subject.load(bytes, &mut tables),
-                    _ => subject.examine(bytes, &mut tables),
+                    2 => subject.load(bytes, allowance, &mut tables),
+                    _ => subject.examine(bytes, allowance, &mut tables),
                 };
                 let sum = sum(&tables, &[]);
                 let right = Answer {
@@ -1026,7 +1133,7 @@ fn replay_items(subject: &dyn Subject, stored: &[u8]) -> Result<Vec<(String, usi
                 let length = items.number()? as usize;
                 let choices = items.bytes(length)?;
                 let mut tables = garbage(&sizes, &mut rng);
-                let answer = subject.follow(bytes, &mut tables, &mut frames, choices);
+                let answer = subject.follow(bytes, allowance, &mut tables, &mut frames, choices);
                 let sum = sum(&tables, &frames);
                 if (of_follow(&answer), sum) != (numbers, stored) {
                     return wrong(&(answer, sum));
@@ -1111,10 +1218,48 @@ mod tests {
     }
 
     #[test]
+    fn a_replay_is_under_the_allowance_that_stands_last() {
+        let file = file_a();
+        let allowed = |bytes, records| Allowance { bytes, records };
+        let mut store = Store::default();
+        store.bytes(1, &file);
+        let mut calls = Vec::new();
+        for (allowance, refusal) in [
+            (Allowance::DESKTOP, 0),
+            (allowed(64, 1), 0),
+            (allowed(63, 1), 29),
+            (allowed(64, 0), 29),
+            (Allowance::DESKTOP, 0),
+        ] {
+            store.allow(allowance);
+            calls.push(store.bytes.len());
+            let right = Answer {
+                refusal,
+                rows: of_records(u32::from(refusal == 0)),
+                visits: 0,
+            };
+            sample_again(&mut store, 2, &ONE_ROW, &file, right).unwrap();
+        }
+        store.bytes(6, b"all");
+        store.item(0, []);
+        let bytes = store.bytes;
+        let groups = Ok(vec![("all".to_owned(), 5)]);
+        assert_eq!(replay_items(&Model, &bytes), groups);
+        // The desktop's has no words, each other one two, the bytes' before the records'.
+        let between = |call: usize| calls[call] - calls[call - 1];
+        assert_eq!([1, 2, 3, 4].map(between), [104, 104, 104, 96]);
+        for (call, before, other) in [(1, 8, 63), (2, 8, 64), (1, 4, 0), (3, 4, 1)] {
+            let mut changed = bytes.clone();
+            changed[calls[call] - before + 3] = other;
+            assert!(replay_items(&Model, &changed).is_err(), "{call} {before}");
+        }
+    }
+
+    #[test]
     fn a_replay_sees_every_number_of_examination_follow_and_lookup() {
         let file = file_a();
         let sizes = Sizes::of_rows([1, 0, 0, 0, 0, 0, 0, 0, 0]);
-        let loaded = model::load(&file, &sizes);
+        let loaded = model::load(&file, Allowance::DESKTOP, &sizes);
         let mut store = Store::default();
         store.bytes(1, &file);
         let call = store.bytes.len();

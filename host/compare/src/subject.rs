@@ -1,6 +1,6 @@
 //! What is held against the original: the papers' model and, where it is linked, the port.
 
-use model::{Constant, Entry, FoundText, Loaded, NAMES, Refusal, Sizes, Tables};
+use model::{Allowance, Constant, Entry, FoundText, Loaded, NAMES, Refusal, Sizes, Tables};
 
 /// The answer of a load: the refusal's number or 0, the rows used and the visits of the LVAR walk.
 #[derive(Debug, Clone, Copy, PartialEq, Eq)]
@@ -87,16 +87,17 @@ pub fn float_bits(float: f64) -> u64 {
 pub trait Subject {
     fn name(&self) -> &'static str;
 
-    /// Loads over lent tables, whose words hold anything before the call.
-    fn load(&self, file: &[u8], tables: &mut Tables) -> Answer;
+    /// Loads under an allowance over lent tables, whose words hold anything before the call.
+    fn load(&self, file: &[u8], allowance: Allowance, tables: &mut Tables) -> Answer;
 
     /// Examines over lent tables, as a load does.
-    fn examine(&self, file: &[u8], tables: &mut Tables) -> Answer;
+    fn examine(&self, file: &[u8], allowance: Allowance, tables: &mut Tables) -> Answer;
 
     /// Follows choices over lent tables and a frame table.
     fn follow(
         &self,
         file: &[u8],
+        allowance: Allowance,
         tables: &mut Tables,
         frames: &mut Vec<u32>,
         choices: &[u8],
@@ -127,15 +128,15 @@ impl Subject for Model {
         "model"
     }
 
-    fn load(&self, file: &[u8], tables: &mut Tables) -> Answer {
-        let loaded = model::load(file, &lent(tables));
+    fn load(&self, file: &[u8], allowance: Allowance, tables: &mut Tables) -> Answer {
+        let loaded = model::load(file, allowance, &lent(tables));
         let answer = Answer::of(&loaded);
         *tables = loaded.tables;
         answer
     }
 
-    fn examine(&self, file: &[u8], tables: &mut Tables) -> Answer {
-        let loaded = model::examine(file, &lent(tables));
+    fn examine(&self, file: &[u8], allowance: Allowance, tables: &mut Tables) -> Answer {
+        let loaded = model::examine(file, allowance, &lent(tables));
         let answer = Answer::of(&loaded);
         *tables = loaded.tables;
         answer
@@ -144,11 +145,12 @@ impl Subject for Model {
     fn follow(
         &self,
         file: &[u8],
+        allowance: Allowance,
         tables: &mut Tables,
         frames: &mut Vec<u32>,
         choices: &[u8],
     ) -> Follow {
-        let followed = model::follow(file, &lent(tables), frames.len(), choices);
+        let followed = model::follow(file, allowance, &lent(tables), frames.len(), choices);
         *tables = followed.loaded.tables;
         *frames = followed.frame_table;
         let (record, offset) = followed.top.unwrap_or_default();

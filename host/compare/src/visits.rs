@@ -58,13 +58,14 @@ pub fn files() -> Vec<Visited> {
 #[cfg(test)]
 mod tests {
     use super::*;
-    use model::Sizes;
+    use crate::allowance::read_all;
+    use model::{Allowance, Sizes};
 
     #[test]
     fn the_model_counts_them_one_by_one() {
         for (number, visited) in files().iter().enumerate() {
-            let used = model::read(&visited.file, [usize::MAX; 9]).rows.used();
-            let loaded = model::load(&visited.file, &Sizes::of_rows(used));
+            let used = read_all(&visited.file).rows.used();
+            let loaded = model::load(&visited.file, Allowance::DESKTOP, &Sizes::of_rows(used));
             assert_eq!(loaded.refusal, 0, "{number}");
             assert_eq!(loaded.rows[0], visited.records, "{number}");
             assert_eq!(loaded.visits, visited.visits, "{number}");
