@@ -49,7 +49,7 @@ impl Met {
             return Met::beyond([0; 9]);
         }
         let records = allowance.records as usize;
-        // The desktop's allowance reads none behind its own last.
+        // No number from the desktop's on is passed, as no more records are read.
         if needed[0] > records {
             return Met::beyond(needed_by(reading, records));
         }
