@@ -17,8 +17,8 @@
 
    Allowances. blotheath_load, blotheath_load_records, blotheath_examine and blotheath_follow are told, directly behind the file, how many bytes and
    how many records it may have: max_bytes and max_records. The desktop's allowance is 65,536 and 1,024, that of the web's preview page 16,384
-   and 64, as the constants below say. A number that is larger than the desktop's counts as the desktop's, each of the two by itself. 0 is an allowance
-   too: under 0 bytes every file that has a byte is refused, under 0 records only a file without records loads.
+   and 64, as the constants below say. A number that is larger than the desktop's counts as the desktop's, each of the two by itself. 0 is an
+   allowance too: under 0 bytes every file that has a byte is refused, under 0 records only a file without records loads.
    A file of more bytes than its allowance is refused by 29, whatever they are; one of more than 65,536 bytes by 1 under every allowance. Records are
    counted as they are read, those that lie over each other too, and the one that is read decides: under 64 the 65th is refused by 29 as soon as its
    first 16 bytes are there, whatever follows them, also in a file of 1,025 records. Where the lent table has no row for that record either, it is
@@ -59,9 +59,9 @@
    28  the file is cut short: it has fewer bytes than its header states
    29  the file has more bytes than its allowance, though at most 65,536; or a record that is read is one more than its allowance, though at most
        the 1,024th, and its lent table has a row for it
-   A load refuses by 1 to 14 and 27 to 29, an examination by 1 to 20, 25 and 27 to 29, follow by 1 to 21, 25 and 27 to 29, lookups by 22, fetch by 23
-   and 24. 1, 29 for bytes, 2, 27, 28, 3 and 4 are tested in this order; 5 to 14, and 29 for records in 14's place, are met where reading forward meets
-   them; the others stand with their calls. */
+   A load refuses by 1 to 14 and 27 to 29, an examination by 1 to 20, 25 and 27 to 29, follow by 1 to 21, 25 and 27 to 29, lookups by 22, fetch by
+   23 and 24. 1, 29 for bytes, 2, 27, 28, 3 and 4 are tested in this order; 5 to 14, and 29 for records in 14's place, are met where reading forward
+   meets them; the others stand with their calls. */
 #ifndef BLOTHEATH_H
 #define BLOTHEATH_H
 

@@ -126,9 +126,10 @@ mod tests {
         assert!(bytes(rows(FILE_LIMIT, most)) > MOST_BYTES - (1 << 20));
     }
 
+    /// So 14 for a record is told only of one that the desktop's allowance does not have, and 29 of every other.
     #[test]
     fn the_last_size_has_every_record() {
-        for length in 1_060..=FILE_LIMIT {
+        for length in 32..=FILE_LIMIT {
             let most = *overlaps(length).last().unwrap();
             assert_eq!(rows(length, most)[RECORDS], RECORD_LIMIT);
         }
