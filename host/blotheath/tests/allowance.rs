@@ -7,7 +7,7 @@ use blotheath::tables::{RECORD_LIMIT, RECORDS, Words, rows, zeros};
 use blotheath::*;
 use common::build::{self, STOP};
 use common::json::{Value, parse};
-use common::{Folder, Numbers, Ran, damaged, files, run, run_with, sample_bytes};
+use common::{Folder, Numbers, Ran, damaged, files, run, run_in_64_mb, run_with, sample_bytes};
 use std::fs;
 
 const ALL: u32 = u32::MAX;
@@ -669,6 +669,23 @@ fn long_files() {
             assert!(line.contains(far), "{line}");
             assert_eq!(line.contains("allowed"), number == 29, "{line}");
         }
+    }
+}
+
+/// Files whose rows take all the memory that the desktop lends are told of in 64 MB too.
+#[test]
+fn hostile_files_in_64_mb() {
+    let folder = Folder::new("allowance-hostile");
+    let most = build::shared_constants(15_000);
+    for (file, says) in [
+        (build::shared_constants(200), "it is refused by 15: "),
+        (most, "it is refused by 14: "),
+    ] {
+        let path = folder.file("hostile.mrb", &file);
+        let ran = run_in_64_mb(&["examine", "--max-records", "4", &path]);
+        assert_eq!(ran.status, 1, "{}", ran.err);
+        assert!(ran.out.contains(": refused by 29: "), "{}", ran.out);
+        assert!(ran.out.contains(says), "{}", ran.out);
     }
 }
 
