@@ -1,13 +1,17 @@
 // Replays stored answers of load, examination and follow, the papers' samples first. Answers are compared as the structs of the C boundary.
 use boundary::BlotheathFollowed;
 use boundary::BlotheathLoaded;
+use format::DESKTOP_BYTES;
+use format::DESKTOP_RECORDS;
 use format::RECORD_WIDTH;
 use libc::STDIN_FILENO;
 use libc::STDOUT_FILENO;
+use rite::Allowance;
 use stored::State;
 use stored::ahead;
 use stored::answered;
 use stored::at_file;
+use stored::at_words;
 use stored::begun;
 use stored::ended;
 use stored::five_agree;
@@ -113,6 +117,20 @@ fn outcome_agrees(o: Outcome, all: &[u8], at: usize) -> bool {
         && five_agree(n[5], n[6], n[7], n[8], n[9], all, ahead(at, 20))
 }
 
+// The allowance of a call: two words that stand last, or the desktop's.
+fn allowance_of(all: &[u8], s: State) -> Allowance {
+    if s.rows == 2 {
+        return Allowance {
+            bytes: word(all, s.map),
+            records: word(all, ahead(s.map, 4)),
+        };
+    }
+    Allowance {
+        bytes: DESKTOP_BYTES,
+        records: DESKTOP_RECORDS,
+    }
+}
+
 // A load, an examination or a follow, by the kind of its item.
 fn call(
     kind: u32,
@@ -128,6 +146,7 @@ fn call(
     lines: &mut [u32],
     frames: &mut [u32],
     choices: &[u8],
+    allowance: Allowance,
 ) -> [u32; 11] {
     match kind {
         2 => of_loaded(boundary::loaded(rite::load(
@@ -141,6 +160,7 @@ fn call(
             filenames,
             files,
             lines,
+            allowance,
         ))),
         7 => of_loaded(boundary::loaded(examine::examine(
             file,
@@ -153,6 +173,7 @@ fn call(
             filenames,
             files,
             lines,
+            allowance,
         ))),
         _ => of_followed(boundary::followed(follow::follow(
             file,
@@ -167,6 +188,7 @@ fn call(
             lines,
             frames,
             choices,
+            allowance,
         ))),
     }
 }
@@ -185,6 +207,7 @@ fn call_summed(
     lines: &mut [u32],
     frames: &mut [u32],
     choices: &[u8],
+    allowance: Allowance,
 ) -> Outcome {
     let numbers = call(
         kind,
@@ -200,6 +223,7 @@ fn call_summed(
         lines,
         frames,
         choices,
+        allowance,
     );
     let of_nine = sum_of_all(
         records,
@@ -224,6 +248,7 @@ fn call_sized(
     at: usize,
     frame_words: usize,
     choices: &[u8],
+    allowance: Allowance,
 ) -> Outcome {
     let mut records = [3735928559u32; RECORD_WORDS];
     let mut handlers = [3735928559u32; 8192];
@@ -259,6 +284,7 @@ fn call_sized(
         &mut lines[0..i],
         &mut frames[0..j],
         choices,
+        allowance,
     )
 }
 
@@ -266,7 +292,15 @@ fn call_sized(
 fn call_at(kind: u32, all: &[u8], s: State, at: usize, frame_words: usize, choices: &[u8]) -> bool {
     let end = least(ahead(s.file, s.bytes), all.len());
     let start = least(s.file, end);
-    let o = call_sized(kind, &all[start..end], all, at, frame_words, choices);
+    let o = call_sized(
+        kind,
+        &all[start..end],
+        all,
+        at,
+        frame_words,
+        choices,
+        allowance_of(all, s),
+    );
     outcome_agrees(o, all, ahead(at, 36))
 }
 
@@ -307,6 +341,7 @@ fn item(all: &[u8], s: State) -> State {
     match word(all, s.at) {
         1 => at_file(all, s),
         2 => load_item(2, all, s),
+        4 => at_words(all, s),
         7 => load_item(7, all, s),
         8 => follow_item(all, s),
         6 => group_item(all, s),

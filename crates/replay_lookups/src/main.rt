@@ -15,6 +15,7 @@ use stored::State;
 use stored::ahead;
 use stored::answered;
 use stored::at_file;
+use stored::at_words;
 use stored::begun;
 use stored::ended;
 use stored::five_agree;
@@ -273,22 +274,6 @@ fn fetch_item(all: &[u8], s: State) -> State {
     answered(s, fetch_at(all, s.file, s.bytes, ahead(s.at, 4)), 24)
 }
 
-fn map_item(all: &[u8], s: State) -> State {
-    let rows = word(all, ahead(s.at, 4)) as usize;
-    let map = ahead(s.at, 8);
-    let bytes = least(rows, 512) * 4;
-    State {
-        going: true,
-        at: ahead(map, bytes),
-        file: s.file,
-        bytes: s.bytes,
-        map,
-        rows,
-        answers: s.answers,
-        differences: s.differences,
-    }
-}
-
 fn line_item(all: &[u8], s: State) -> State {
     answered(s, line_at(all, s.map, s.rows, ahead(s.at, 4)), 16)
 }
@@ -324,7 +309,7 @@ fn item(all: &[u8], s: State) -> State {
     match word(all, s.at) {
         1 => at_file(all, s),
         3 => fetch_item(all, s),
-        4 => map_item(all, s),
+        4 => at_words(all, s),
         5 => line_item(all, s),
         9 => lookup_item(all, s),
         10 => constant_item(all, s),

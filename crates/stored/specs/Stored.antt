@@ -1,7 +1,7 @@
 -- Stored answers: numbers of four bytes, high byte first, and how far a replay has come with them. Places stop at one that is past all that is
 -- stored, and counts at the largest number of 32 bits.
 -- Assumes nothing.
-use Prim.Native.Nat.{ℕ, _+_}
+use Prim.Native.Nat.{ℕ, _+_, _*_}
 use mathlib.Core.Bool.{Bool, true, false, cond, _&&_}
 use mathlib.Core.List.{List}
 use lib.Dec.{eqb, ltb}
@@ -65,6 +65,20 @@ atFile f s =
       bytes = word f (ahead (s .at) 4);
       map = s .map;
       rows = s .rows;
+      answers = s .answers;
+      differences = s .differences;
+    }
+
+-- behind words, of which at most 512 stand there; they are those that stand last
+abbrev pub atWords : List ℕ → State → State
+atWords f s =
+    record {
+      going = true;
+      at = ahead (ahead (s .at) 8) (least (word f (ahead (s .at) 4)) 512 * 4);
+      file = s .file;
+      bytes = s .bytes;
+      map = ahead (s .at) 8;
+      rows = word f (ahead (s .at) 4);
       answers = s .answers;
       differences = s .differences;
     }

@@ -136,6 +136,25 @@ pub fn at_file(all: &[u8], s: State) -> State
     }
 }
 
+// Behind words, which stand last.
+pub fn at_words(all: &[u8], s: State) -> State
+    ensures { λ r. ⌜ r ≡ stored.atWords (now (all .entry)) s ⌝ }
+{
+    let rows = word(all, ahead(s.at, 4)) as usize;
+    let map = ahead(s.at, 8);
+    let bytes = least(rows, 512) * 4;
+    State {
+        going: true,
+        at: ahead(map, bytes),
+        file: s.file,
+        bytes: s.bytes,
+        map,
+        rows,
+        answers: s.answers,
+        differences: s.differences,
+    }
+}
+
 // Behind the name that ends a group of answers.
 pub fn next_group(s: State, bytes: usize) -> State
     ensures { λ r. ⌜ r ≡ stored.nextGroup s bytes ⌝ }
