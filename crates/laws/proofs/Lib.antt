@@ -18,4 +18,7 @@ pub mod Registers
 pub mod Newer
 pub mod Prefixes
 pub mod Unprefixed
+pub mod Unlimited
+pub mod Cut
+pub mod Allowance
 pub mod Samples
