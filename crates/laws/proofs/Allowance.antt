@@ -1,1 +1,299 @@
--- x
+-- A caller's allowance: paper 02, h). What a load answers under one, against the load without; a file accepted under one and under another; and when
+-- 29 is met.
+-- Assumes nothing.
+use Prim.Native.Nat.{ℕ, zero, suc, _/_, _≤_, _<_}
+use native.Mathlib.Nat.{le-refl, le-trans}
+use native.Mathlib.Omega.{arith}
+use mathlib.Core.Path.{_≡_, refl, sym, ap, subst, _∙_}
+use mathlib.Core.Logic.{_↔_, _⊎_, inl, inr}
+use mathlib.Core.Bool.{Bool, true, false, cond, _&&_}
+use mathlib.Core.List.{List}
+use lib.Dec.{T, leb, leb·zero, leb→le}
+use lib.ListN.{length}
+use borrow.Author.Tests.{leb-true, leb-false, le-leb, lt-leb}
+use Rattle.format.specs.Bytes.{Answer, ok, refused, bind, onAnswer}
+use Rattle.format.specs.Reading.{Part}
+use Rattle.format.specs.Rows.{recordWidth}
+use Rattle.format.specs.Allowance.{Allowance, allowance, desktop, least, granted, Within}
+use Rattle.format.specs.File.{Content, nothing, fileReading}
+use Rattle.format.specs.Load.{Nine, Counts, Loaded, recordsOf, tablesOf, used, fits, ending, loadingWithin, loading, laid, load}
+use Rattle.format.specs.Exam.{FilePasses, passing, examining, examine}
+use Rattle.format.specs.Run.{following, follow}
+use Rattle.format.proofs.Answers.{ok-refused}
+use Rattle.format.proofs.File.{Accepted}
+use Rattle.format.proofs.Places.{records-length}
+use Rattle.format.proofs.Table.{both}
+use Rattle.bounds.proofs.Grows.{Less}
+use Rattle.layout.proofs.Ends.{bind-ok, reading-accepted}
+use Rattle.layout.proofs.Inside.{loading-reading, loading-held}
+use Rattle.laws.proofs.Unlimited as before
+use Rattle.laws.proofs.Cut.{Beyond, Cut, whole, beyond, cut-whole, cut-beyond, tests-within, tests-desktop, reading-beyond, reading-cut}
+
+-- within the lesser of two numbers is within both
+pub least-iff : (k a b : ℕ) → (k ≤ least a b) ↔ ((k ≤ a) × (k ≤ b))
+least-iff k a b = go (leb a b) refl
+  where
+    go : (t : Bool) → leb a b ≡ t → (k ≤ cond t a b) ↔ ((k ≤ a) × (k ≤ b))
+    go true e = let l = leb-true a b e in (λ h. (h, omega arith), λ x. x .0)
+    go false e = let l = leb-false a b e in (λ h. (omega arith, h), λ x. x .1)
+
+-- "any that is nowhere smaller" is granted nowhere less
+pub granted-within : (a b : Allowance) → Within a b → Within (granted a) (granted b)
+granted-within a b w = record { bytes = less (a .bytes) (b .bytes) 65536 (w .bytes); records = less (a .records) (b .records) 1024 (w .records) }
+  where
+    less : (a b n : ℕ) → a ≤ b → least a n ≤ least b n
+    less a b n h = let l = least-iff (least a n) a n .0 (le-refl _) in least-iff (least a n) b n .1 (le-trans (l .0) h, l .1)
+
+-- "A larger number in it counts as the desktop's."
+pub granted-larger : (a : Allowance) → Within desktop a → granted a ≡ desktop
+granted-larger a w = rw (is (a .bytes) 65536 (w .bytes), is (a .records) 1024 (w .records))
+  where
+    is : (a n : ℕ) → n ≤ a → least a n ≡ n
+    is a n h = let l = least-iff (least a n) a n .0 (le-refl _) in let g = least-iff n a n .1 (h, le-refl n) in omega arith
+
+-- where a reading needs no more rows than another, it fits where the other does
+fits-less : (m : Nine) (c c′ : Content) → Less c c′ → T (fits 1024 m (used (tablesOf c′))) → fits 1024 m (used (tablesOf c)) ≡ true
+unfolding fits
+fits-less m c c′ l t =
+    let r = tablesOf c in
+    let r′ = tablesOf c′ in
+    rw (
+      less (length (r .records)) (length (r′ .records)) 1024 (l .records) (search both depth 12),
+      less (length (r .records)) (length (r′ .records)) (m .records / recordWidth) (l .records) (search both depth 12),
+      less (length (r .handlers)) (length (r′ .handlers)) (m .handlers / 4) (l .handlers) (search both depth 12),
+      less (length (r .pool)) (length (r′ .pool)) (m .pool / 3) (l .pool) (search both depth 12),
+      less (length (r .symbols)) (length (r′ .symbols)) (m .symbols / 2) (l .symbols) (search both depth 12),
+      less (length (r .strings)) (length (r′ .strings)) (m .strings / 2) (l .strings) (search both depth 12),
+      less (length (r .names)) (length (r′ .names)) (m .names) (l .names) (search both depth 12),
+      less (length (r .fileNames)) (length (r′ .fileNames)) (m .fileNames / 2) (l .fileNames) (search both depth 12),
+      less (length (r .files)) (length (r′ .files)) (m .files / 4) (l .files) (search both depth 12),
+      less (length (r .lines)) (length (r′ .lines)) (m .lines / 2) (l .lines) (search both depth 12),
+    )
+  where
+    less : (a b n : ℕ) → a ≤ b → T (leb b n) → leb a n ≡ true
+    less a b n h t = le-leb a n (le-trans h (leb→le b n t))
+
+-- nothing that was read needs no row
+pub fits-nothing : (m : Nine) → fits 1024 m (used (tablesOf nothing)) ≡ true
+unfolding fits
+fits-nothing m =
+    rw (
+      leb·zero (m .records / recordWidth),
+      leb·zero (m .handlers / 4),
+      leb·zero (m .pool / 3),
+      leb·zero (m .symbols / 2),
+      leb·zero (m .strings / 2),
+      leb·zero (m .names),
+      leb·zero (m .fileNames / 2),
+      leb·zero (m .files / 4),
+      leb·zero (m .lines / 2),
+    )
+
+-- what needs more records than there are rows, or than 1,024, does not fit
+fits-false : (m : Nine) (c : Content) → (length (recordsOf c) ≤ 1024 → length (recordsOf c) ≤ m .records / recordWidth → ⊥) → fits 1024 m (used (tablesOf c)) ≡ false
+unfolding fits
+fits-false m c n = go (fits 1024 m (used (tablesOf c))) refl
+  where
+    go : (b : Bool) → fits 1024 m (used (tablesOf c)) ≡ b → b ≡ false
+    go false e = refl
+    go true e =
+        let t : T (fits 1024 m (used (tablesOf c))) = subst T (sym e) tt in
+        let l = records-length c in
+        let few : length (tablesOf c .records) ≤ 1024 = leb→le _ _ (search both depth 12) in
+        let lent : length (tablesOf c .records) ≤ m .records / recordWidth = leb→le _ _ (search both depth 12) in
+        absurd (n (omega arith) (omega arith))
+
+-- what a load under an allowance answers, in each case
+module _ (f : List ℕ) (m : Nine) (a : Allowance) where
+  -- "29 when the file .. is beyond the caller's allowance but within the desktop's, at 1's place for bytes"
+  pub bytes-29 : granted a .bytes < length f → length f ≤ desktop .bytes → loading f m a ≡ refused 29
+  unfolding loadingWithin ending
+  bytes-29 b h = rw (reading-beyond f (granted a) b h, fits-nothing m)
+
+  reading-within : length f ≤ granted a .bytes → Cut (granted a .records) (fileReading f (granted a)) (before.fileReading f)
+  reading-within h = reading-cut f (granted a) (tests-within f (granted a .bytes) h)
+
+  -- a file within the allowance is loaded as without one
+  pub within-load : length f ≤ granted a .bytes → length (recordsOf (before.fileReading f .it)) ≤ granted a .records → loading f m a ≡ before.loading f m
+  unfolding loadingWithin before.loading
+  within-load h k = rw (cut-whole (granted a .records) (fileReading f (granted a)) (before.fileReading f) (reading-within h) k)
+
+  module _ (h : length f ≤ granted a .bytes) (k : granted a .records < length (recordsOf (before.fileReading f .it))) where
+    cut-there : Beyond (granted a .records) (fileReading f (granted a)) (before.fileReading f)
+    cut-there = cut-beyond (granted a .records) (fileReading f (granted a)) (before.fileReading f) (reading-within h) k
+
+    -- "29 when .. its record number is beyond the caller's allowance .., at .. 14's [place] for records": where what is read up to there fits
+    pub records-29 : loading f m a ≡ cond (fits 1024 m (used (tablesOf (fileReading f (granted a) .it)))) (refused 29) (refused 14)
+    unfolding loadingWithin ending
+    records-29 = rw (cut-there .ends)
+
+    -- "where the lent table is too short as well, 14"
+    pub short-14 : m .records / recordWidth ≤ granted a .records → loading f m a ≡ refused 14
+    short-14 s = records-29 ∙ rw (fits-false m (fileReading f (granted a) .it) (λ _ t. omega (arith, cut-there .records)))
+
+-- A file that loads: its reading without an allowance, which its tests accept, which nothing refuses and whose rows fit
+record Loads (f : List ℕ) (m : Nine) (c : Content) : Type 0 where
+  small : length f ≤ desktop .bytes
+  few : length (recordsOf c) ≤ desktop .records
+  reads : before.fileReading f .it ≡ c
+  loads : before.loading f m ≡ ok c
+  fit : T (fits 1024 m (used (tablesOf c)))
+
+loaded : (f : List ℕ) (m : Nine) (a : Allowance) (c : Content) → loading f m a ≡ ok c → Loads f m c
+unfolding loadingWithin before.loading
+loaded f m a c e =
+    let r = loading-reading f m a c e in
+    let h = reading-accepted f (granted a) (r .1 .0) (r .1 .1) in
+    go r h (reading-within f m a (h .within))
+  where
+    go : (fileReading f (granted a) .it ≡ c) × ((to : ℕ) × fileReading f (granted a) .end ≡ ok to) × T (fits 1024 m (used (tablesOf c)))
+        → Accepted f (granted a .bytes) → Cut (granted a .records) (fileReading f (granted a)) (before.fileReading f) → Loads f m c
+    go r h (whole q k) =
+        record {
+          small = h .small;
+          few = omega (arith, loading-held f m a c e .few, records-length c);
+          reads = rw (← q) (r .0);
+          loads = rw (← q) e;
+          fit = r .2;
+        }
+    go r h (beyond b) = absurd (ok-refused (sym (b .ends) ∙ r .1 .1))
+
+-- the numbers of a file are within an allowance
+abbrev allows : Allowance → List ℕ → Content → Bool
+allows a f c = leb (length f) (granted a .bytes) && leb (length (recordsOf c)) (granted a .records)
+
+-- of a file that loads, the allowance's two numbers alone decide
+exactly : (f : List ℕ) (m : Nine) (a : Allowance) (c : Content) → Loads f m c → loading f m a ≡ cond (allows a f c) (ok c) (refused 29)
+exactly f m a c x = by-bytes (leb (length f) (granted a .bytes)) refl (leb (length (recordsOf c)) (granted a .records)) refl
+  where
+    by-bytes : (s : Bool) → leb (length f) (granted a .bytes) ≡ s → (t : Bool) → leb (length (recordsOf c)) (granted a .records) ≡ t
+        → loading f m a ≡ cond (s && t) (ok c) (refused 29)
+    by-bytes false p t q = bytes-29 f m a (leb-false _ _ p) (x .small)
+    by-bytes true p true q = within-load f m a (leb-true _ _ p) (rw (x .reads) (leb-true _ _ q)) ∙ x .loads
+    by-bytes true p false q =
+        let h = leb-true (length f) (granted a .bytes) p in
+        let k : granted a .records < length (recordsOf (before.fileReading f .it)) = rw (x .reads) (leb-false _ _ q) in
+        let r = fileReading f (granted a) .it in
+        let l : Less r c = rw (x .reads) at (cut-there f m a h k .less) in
+        records-29 f m a h k ∙ rw (fits-less m r c l (x .fit))
+
+module _ (f : List ℕ) (m : Nine) where
+  -- Of a file that loads under one allowance, any other says by its two numbers alone: the same content, or 29.
+  pub allowed-exactly : (a b : Allowance) (c : Content) → loading f m b ≡ ok c
+      → loading f m a ≡ cond (leb (length f) (granted a .bytes) && leb (length (recordsOf c)) (granted a .records)) (ok c) (refused 29)
+  allowed-exactly a b c e = exactly f m a c (loaded f m b c e)
+
+  -- an allowance under which a file loads allows the file's numbers
+  pub loaded-within : (a : Allowance) (c : Content) → loading f m a ≡ ok c → (length f ≤ granted a .bytes) × (length (recordsOf c) ≤ granted a .records)
+  loaded-within a c e = go (leb (length f) (granted a .bytes)) refl (leb (length (recordsOf c)) (granted a .records)) refl (sym (allowed-exactly a a c e) ∙ e)
+    where
+      go : (s : Bool) → leb (length f) (granted a .bytes) ≡ s → (t : Bool) → leb (length (recordsOf c)) (granted a .records) ≡ t
+          → cond (s && t) (ok c) (refused 29) ≡ ok c → (length f ≤ granted a .bytes) × (length (recordsOf c) ≤ granted a .records)
+      go true p true q e = (leb-true _ _ p, leb-true _ _ q)
+      go true p false q e = absurd (ok-refused e)
+      go false p t q e = absurd (ok-refused e)
+
+  -- one that allows them loads it
+  pub loads-within : (a b : Allowance) (c : Content) → loading f m b ≡ ok c → length f ≤ granted a .bytes → length (recordsOf c) ≤ granted a .records → loading f m a ≡ ok c
+  loads-within a b c e h k = allowed-exactly a b c e ∙ rw (le-leb (length f) (granted a .bytes) h, le-leb (length (recordsOf c)) (granted a .records) k)
+
+  -- so a file is accepted under its own numbers
+  pub own-numbers : (b : Allowance) (c : Content) → loading f m b ≡ ok c → loading f m (allowance (length f) (length (recordsOf c))) ≡ ok c
+  own-numbers b c e =
+      let x = loaded f m b c e in
+      loads-within (allowance (length f) (length (recordsOf c))) b c e (least-iff _ _ _ .1 (le-refl _, x .small)) (least-iff _ _ _ .1 (le-refl _, x .few))
+
+  -- and is 29 under any with a smaller one
+  pub smaller-29 : (a b : Allowance) (c : Content) → loading f m b ≡ ok c → (a .bytes < length f) ⊎ (a .records < length (recordsOf c)) → loading f m a ≡ refused 29
+  smaller-29 a b c e h = go (allows a f c) (allowed-exactly a b c e)
+    where
+      large : loading f m a ≡ ok c → (length f ≤ a .bytes) × (length (recordsOf c) ≤ a .records)
+      large q = let l = loaded-within a c q in (least-iff _ _ _ .0 (l .0) .0, least-iff _ _ _ .0 (l .1) .0)
+
+      go : (t : Bool) → loading f m a ≡ cond t (ok c) (refused 29) → loading f m a ≡ refused 29
+      go false q = q
+      go true q = let l = large q in elim h [ inl s ↦ absurd (omega (arith, l .0)) | inr s ↦ absurd (omega (arith, l .1)) ]
+
+  -- "A file accepted under one gives the same rows in the same tables under any that is nowhere smaller."
+  pub same-content : (a b : Allowance) (c : Content) → loading f m a ≡ ok c → Within a b → loading f m b ≡ ok c
+  same-content a b c e w =
+      let h = loaded-within a c e in
+      let g = granted-within a b w in
+      loads-within b a c e (le-trans (h .0) (g .bytes)) (le-trans (h .1) (g .records))
+
+  module _ (a b : Allowance) (w : Within a b) where
+    same-loading : (c : Content) → loading f m a ≡ ok c → loading f m b ≡ loading f m a
+    same-loading c e = same-content a b c e w ∙ sym e
+
+    pub same-rows : (c : Content) → loading f m a ≡ ok c → load f m b ≡ load f m a
+    unfolding load
+    same-rows c e = rw (same-loading c e)
+
+    -- so what passes under one passes under the other, with the same answer and the same tables
+    pub same-examine : (k : Counts) → examine f m a .answer ≡ ok k → examine f m b ≡ examine f m a
+    unfolding examine examining
+    same-examine k e = by-load (loading f m a) refl
+      where
+        by-load : (x : Answer Content) → loading f m a ≡ x → examine f m b ≡ examine f m a
+        by-load (ok c) q = rw (same-loading c q)
+        by-load (refused n) q = absurd (ok-refused (rw q at e))
+
+    -- and each run of it is the same
+    pub same-follow : (c : Content) → loading f m a ≡ ok c → (n : ℕ) (bs : List ℕ) → follow f m b n bs ≡ follow f m a n bs
+    unfolding follow following
+    same-follow c e n bs = rw (same-loading c e)
+
+  -- "a file refused by 29 under one is not accepted under a smaller"
+  pub beyond-smaller : (a b : Allowance) → load f m a .answer ≡ refused 29 → Within b a → (c : Content) → ¬ (loading f m b ≡ ok c)
+  unfolding load
+  beyond-smaller a b r w c e = ok-refused (sym (rw (same-content b a c e w) at r))
+
+-- so a file that passes under one allowance passes under any that is nowhere smaller
+pub same-passes : (f : List ℕ) (a b : Allowance) → Within a b → FilePasses f a → FilePasses f b
+same-passes f a b w p =
+    record { tables = p .tables; content = p .content; loads = same-content f (p .tables) a b (p .content) (p .loads) w; passes = p .passes }
+
+-- under the desktop's allowance
+module _ (f : List ℕ) (m : Nine) where
+  desktop-loading : loading f m desktop ≡ before.loading f m
+  unfolding loadingWithin before.loading ending
+  desktop-loading = go (reading-cut f desktop (tests-desktop f))
+    where
+      go : Cut 1024 (fileReading f desktop) (before.fileReading f) → ending 1024 m (fileReading f desktop) ≡ ending 1024 m (before.fileReading f)
+      go (whole e _) = rw e
+      go (beyond b) =
+          let r = fileReading f desktop .it in
+          let r′ = before.fileReading f .it in
+          rw (
+            fits-false m r (λ n _. omega (arith, b .records)),
+            fits-false m r′ (λ n _. omega (arith, b .records, b .less .records, records-length r, records-length r′)),
+          )
+
+  pub desktop-load : load f m desktop ≡ before.load f m
+  unfolding load before.load
+  desktop-load = rw desktop-loading
+
+  pub desktop-examine : examine f m desktop ≡ before.examine f m
+  unfolding examine examining before.examine before.examining
+  desktop-examine = rw desktop-loading
+
+  pub desktop-follow : (n : ℕ) (bs : List ℕ) → follow f m desktop n bs ≡ before.follow f m n bs
+  unfolding follow following before.follow before.following
+  desktop-follow n bs = rw desktop-loading
+
+  -- "A larger number in it counts as the desktop's."
+  module _ (a : Allowance) (w : Within desktop a) where
+    larger-loading : loading f m a ≡ loading f m desktop
+    larger-loading = rw (granted-larger a w)
+
+    pub larger-load : load f m a ≡ load f m desktop
+    unfolding load
+    larger-load = rw larger-loading
+
+    pub larger-examine : examine f m a ≡ examine f m desktop
+    unfolding examine examining
+    larger-examine = rw larger-loading
+
+    pub larger-follow : (n : ℕ) (bs : List ℕ) → follow f m a n bs ≡ follow f m desktop n bs
+    unfolding follow following
+    larger-follow n bs = rw larger-loading

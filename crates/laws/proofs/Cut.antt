@@ -1,7 +1,7 @@
 -- What an allowance of records makes of a reading: nothing where the reading has no more records than that; else it ends by 29 at the first record
 -- beyond, and needs no more rows in any table.
 -- Assumes nothing.
-use Prim.Native.Nat.{ℕ, zero, suc, _+_, _-_, _≤_, suc-le-suc}
+use Prim.Native.Nat.{ℕ, zero, suc, _+_, _-_, _≤_, _<_, suc-le-suc}
 use native.Mathlib.Nat.{le-refl}
 use native.Mathlib.Omega.{arith}
 use mathlib.Core.Path.{_≡_, refl, sym, ap, _∙_}
@@ -10,10 +10,12 @@ use mathlib.Core.List.{List, [], _∷_}
 use mathlib.Core.Option.{Option, none, some}
 use lib.Dec.{leb, eqb, eqb·suc-zero}
 use lib.ListN.{length, drop, length-append}
-use Rattle.format.specs.Bytes.{Answer, ok, refused, bind, onAnswer, has, u32At}
+use borrow.Author.Tests.{le-leb, lt-leb}
+use Rattle.format.specs.Bytes.{Answer, ok, refused, bind, onAnswer, refuse, first, has, u32At}
 use Rattle.format.specs.Reading.{Read, reading, Part, part, add, andThen}
 use Rattle.format.specs.Irep.{body, Rec, recordAt, recordsFrom, irepSection}
-use Rattle.format.specs.File.{Content, content, isMark, once, afterIrep, sectionAt, sections}
+use Rattle.format.specs.Allowance.{Allowance, desktop}
+use Rattle.format.specs.File.{Content, content, isMark, once, afterIrep, sectionAt, sections, nothing, fileRefusal, fileReading}
 use Rattle.format.specs.Headers.{irep, lvar, dbg, end}
 use Rattle.format.proofs.Answers.{either}
 use Rattle.format.specs.Lvar.{Lvar}
@@ -24,9 +26,26 @@ use Rattle.bounds.proofs.Grows.{Ordered, Less, less-less, section-grows, sectio
 use Rattle.laws.proofs.Unlimited as before
 
 -- a reading r′ under an allowance of x records, and the reading r without
+pub record Beyond (x : ℕ) (r′ r : Part Content) : Type 0 where
+  pub ends : r′ .end ≡ refused 29
+  pub records : length (recordsOf (r′ .it)) ≡ suc x
+  pub less : Less (r′ .it) (r .it)
+
 pub data Cut (x : ℕ) (r′ r : Part Content) : Type 0 where
   whole : r′ ≡ r → length (recordsOf (r .it)) ≤ x → Cut x r′ r
-  beyond : r′ .end ≡ refused 29 → length (recordsOf (r′ .it)) ≡ suc x → Less (r′ .it) (r .it) → Cut x r′ r
+  beyond : Beyond x r′ r → Cut x r′ r
+
+-- which of the two, by the number of records that are read
+beyond-more : (x : ℕ) (r′ r : Part Content) → Beyond x r′ r → x < length (recordsOf (r .it))
+beyond-more x r′ r b = omega (arith, b .records, b .less .records, records-length (r′ .it), records-length (r .it))
+
+pub cut-whole : (x : ℕ) (r′ r : Part Content) → Cut x r′ r → length (recordsOf (r .it)) ≤ x → r′ ≡ r
+cut-whole x r′ r (whole e h) k = e
+cut-whole x r′ r (beyond b) k = absurd (omega (arith, beyond-more x r′ r b))
+
+pub cut-beyond : (x : ℕ) (r′ r : Part Content) → Cut x r′ r → x < length (recordsOf (r .it)) → Beyond x r′ r
+cut-beyond x r′ r (whole e h) k = absurd (omega arith)
+cut-beyond x r′ r (beyond b) k = b
 
 -- records alone, as a content
 abbrev only : Read Rec → Part Content
@@ -66,12 +85,12 @@ less-bare r′ r rs e =
 add-cut : (r : Rec) (x : ℕ) (p′ p : Read Rec) → Cut x (only p′) (only p) → Cut (suc x) (only (add r p′)) (only (add r p))
 add-cut r x p′ p (whole e h) =
     whole (ap (λ (q : Part Content). part (content (some (r ∷ recordsOf (q .it))) none none) (q .end)) e) (suc-le-suc h)
-add-cut r x p′ p (beyond e n l) = beyond e (ap suc n) (less-more r (p′ .rows) (p .rows) l)
+add-cut r x p′ p (beyond b) = beyond (record { ends = b .ends; records = ap suc (b .records); less = less-more r (p′ .rows) (p .rows) (b .less) })
 
 -- where both go on by the same, after a test of the same
 bind-cut : (x : ℕ) (p′ p : Part Content) (k : ℕ → Answer ℕ) → Cut x p′ p → Cut x (part (p′ .it) (bind (p′ .end) k)) (part (p .it) (bind (p .end) k))
 bind-cut x p′ p k (whole e h) = whole (ap (λ (q : Part Content). part (q .it) (bind (q .end) k)) e) h
-bind-cut x p′ p k (beyond e n l) = beyond (rw e) n l
+bind-cut x p′ p k (beyond b) = beyond (record { ends = rw (b .ends); records = b .records; less = b .less })
 
 ways : {A : Type 0} (P : A → A → Type 0) (b : Bool) (x′ x y′ y : A) → (b ≡ true → P x′ x) → (b ≡ false → P y′ y) → P (cond b x′ y′) (cond b x y)
 ways P true x′ x y′ y h g = h refl
@@ -102,7 +121,8 @@ module _ (f : List ℕ) (base size : ℕ) where
       next zero ih =
           let b = record-beyond at in
           let r = before.recordAt f base at in
-          rw (b .0) (beyond refl refl (less-bare (recordAt f base 0 at .it) (r .it) (andThen (r .end) (before.recordsFrom f base size n) .rows) (b .1)))
+          let rs = andThen (r .end) (before.recordsFrom f base size n) .rows in
+          rw (b .0) (beyond (record { ends = refl; records = refl; less = less-bare (recordAt f base 0 at .it) (r .it) rs (b .1) }))
       next (suc x) ih = let r = before.recordAt f base at in let k : suc x - 1 ≡ x = omega arith in rw (record-same x at, k) (add-cut (r .it) x _ _ (by-end (r .end)))
         where
           by-end : (e : Answer ℕ) → Cut x (only (andThen e (recordsFrom f base size n x))) (only (andThen e (before.recordsFrom f base size n)))
@@ -214,13 +234,13 @@ module _ (f : List ℕ) (x : ℕ) where
           (onAnswer a (λ size. before.sections f n (s .it) (at + size)) (λ e. part (s .it) (refused e)))
       by-end (ok size) = ih (s .it) (at + size) (rw e at o) h
       by-end (refused k) = whole refl h
-  on-cut n at s′ s (beyond e k l) o ih = rw e (beyond refl k (by-end (s .end)))
+  on-cut n at s′ s (beyond b) o ih = rw (b .ends) (beyond (record { ends = refl; records = b .records; less = by-end (s .end) }))
     where
       by-end : (a : Answer ℕ) → Less (s′ .it) (onAnswer a (λ size. before.sections f n (s .it) (at + size)) (λ e. part (s .it) (refused e)) .it)
       by-end (ok size) =
-          let h : 1 ≤ length (recordsOf (s .it)) = omega (arith, l .records, records-length (s′ .it), records-length (s .it)) in
-          less-less (s′ .it) (s .it) _ l (before-grow n (s .it) (at + size) h)
-      by-end (refused k) = l
+          let h : 1 ≤ length (recordsOf (s .it)) = omega (arith, beyond-more x s′ s b) in
+          less-less (s′ .it) (s .it) _ (b .less) (before-grow n (s .it) (at + size) h)
+      by-end (refused k) = b .less
 
   pub sections-cut : (n : ℕ) (c : Content) (at : ℕ) → Ordered (c .irep) (c .lvar) (c .dbg) → length (recordsOf c) ≤ x
       → Cut x (sections f x n c at) (before.sections f n c at)
@@ -231,3 +251,33 @@ module _ (f : List ℕ) (x : ℕ) where
       (λ _. on-cut n at (sectionAt f x c at) (before.sectionAt f c at) (section-cut (c .irep) (c .lvar) (c .dbg) o h at)
       (section-grows f at x (c .irep) (c .lvar) (c .dbg) o .ordered) (sections-cut n))
       (λ _. whole refl h)
+
+module _ (f : List ℕ) where
+  -- a file within the allowance of bytes is tested as without one
+  pub tests-within : (bytes : ℕ) → length f ≤ bytes → fileRefusal f bytes ≡ before.fileRefusal f
+  unfolding fileRefusal before.fileRefusal
+  tests-within bytes h = rw (le-leb (length f) bytes h)
+
+  -- and every file under the desktop's
+  pub tests-desktop : fileRefusal f (desktop .bytes) ≡ before.fileRefusal f
+  unfolding fileRefusal before.fileRefusal
+  tests-desktop = go (leb (length f) 65536) _
+    where
+      go : (b : Bool) (n : ℕ) → first (refuse 1 b) (first (refuse 29 b) n) ≡ first (refuse 1 b) n
+      go true n = refl
+      go false n = refl
+
+  -- "29 when the file .. is beyond the caller's allowance but within the desktop's, at 1's place for bytes"
+  pub tests-beyond : (bytes : ℕ) → bytes < length f → length f ≤ desktop .bytes → fileRefusal f bytes ≡ 29
+  unfolding fileRefusal
+  tests-beyond bytes b h = rw (le-leb (length f) 65536 h, lt-leb (length f) bytes b)
+
+  pub reading-beyond : (a : Allowance) → a .bytes < length f → length f ≤ desktop .bytes → fileReading f a ≡ part nothing (refused 29)
+  unfolding fileReading
+  reading-beyond a b h = rw (tests-beyond (a .bytes) b h)
+
+  pub reading-cut : (a : Allowance) → fileRefusal f (a .bytes) ≡ before.fileRefusal f → Cut (a .records) (fileReading f a) (before.fileReading f)
+  unfolding fileReading before.fileReading
+  reading-cut a e =
+      rw e
+      (ways (Cut (a .records)) (eqb (before.fileRefusal f) 0) _ _ _ _ (λ _. sections-cut f (a .records) (length f) nothing 20 tt (omega arith)) (λ _. whole refl (omega arith)))
