@@ -1,32 +1,31 @@
 -- A caller's allowance: paper 02, h). What a load answers under one, against the load without; a file accepted under one and under another; and when
 -- 29 is met.
 -- Assumes nothing.
-use Prim.Native.Nat.{ℕ, zero, suc, _/_, _≤_, _<_}
+use Prim.Native.Nat.{ℕ, _/_, _≤_, _<_}
 use native.Mathlib.Nat.{le-refl, le-trans}
 use native.Mathlib.Omega.{arith}
-use mathlib.Core.Path.{_≡_, refl, sym, ap, subst, _∙_}
+use mathlib.Core.Path.{_≡_, refl, sym, subst, _∙_}
 use mathlib.Core.Logic.{_↔_, _⊎_, inl, inr}
 use mathlib.Core.Bool.{Bool, true, false, cond, _&&_}
 use mathlib.Core.List.{List}
 use lib.Dec.{T, leb, leb·zero, leb→le}
 use lib.ListN.{length}
-use borrow.Author.Tests.{leb-true, leb-false, le-leb, lt-leb}
-use Rattle.format.specs.Bytes.{Answer, ok, refused, bind, onAnswer}
-use Rattle.format.specs.Reading.{Part}
+use borrow.Author.Tests.{leb-true, leb-false, le-leb}
+use Rattle.format.specs.Bytes.{Answer, ok, refused}
 use Rattle.format.specs.Rows.{recordWidth}
 use Rattle.format.specs.Allowance.{Allowance, allowance, desktop, least, granted, Within}
 use Rattle.format.specs.File.{Content, nothing, fileReading}
-use Rattle.format.specs.Load.{Nine, Counts, Loaded, recordsOf, tablesOf, used, fits, ending, loadingWithin, loading, laid, load}
-use Rattle.format.specs.Exam.{FilePasses, passing, examining, examine}
+use Rattle.format.specs.Load.{Nine, Counts, recordsOf, tablesOf, used, fits, ending, loadingWithin, loading, load}
+use Rattle.format.specs.Exam.{FilePasses, examining, examine}
 use Rattle.format.specs.Run.{following, follow}
 use Rattle.format.proofs.Answers.{ok-refused}
 use Rattle.format.proofs.File.{Accepted}
 use Rattle.format.proofs.Places.{records-length}
 use Rattle.format.proofs.Table.{both}
 use Rattle.bounds.proofs.Grows.{Less}
-use Rattle.layout.proofs.Ends.{bind-ok, reading-accepted}
+use Rattle.layout.proofs.Ends.{reading-accepted}
 use Rattle.layout.proofs.Inside.{loading-reading, loading-held}
-use Rattle.laws.proofs.Unlimited as before
+use Rattle.laws.proofs.Unlimited as free
 use Rattle.laws.proofs.Cut.{Beyond, Cut, whole, beyond, cut-whole, cut-beyond, tests-within, tests-desktop, reading-beyond, reading-cut}
 
 -- within the lesser of two numbers is within both
@@ -110,17 +109,17 @@ module _ (f : List ℕ) (m : Nine) (a : Allowance) where
   unfolding loadingWithin ending
   bytes-29 b h = rw (reading-beyond f (granted a) b h, fits-nothing m)
 
-  reading-within : length f ≤ granted a .bytes → Cut (granted a .records) (fileReading f (granted a)) (before.fileReading f)
+  reading-within : length f ≤ granted a .bytes → Cut (granted a .records) (fileReading f (granted a)) (free.fileReading f)
   reading-within h = reading-cut f (granted a) (tests-within f (granted a .bytes) h)
 
   -- a file within the allowance is loaded as without one
-  pub within-load : length f ≤ granted a .bytes → length (recordsOf (before.fileReading f .it)) ≤ granted a .records → loading f m a ≡ before.loading f m
-  unfolding loadingWithin before.loading
-  within-load h k = rw (cut-whole (granted a .records) (fileReading f (granted a)) (before.fileReading f) (reading-within h) k)
+  pub within-load : length f ≤ granted a .bytes → length (recordsOf (free.fileReading f .it)) ≤ granted a .records → loading f m a ≡ free.loading f m
+  unfolding loadingWithin free.loading
+  within-load h k = rw (cut-whole (granted a .records) (fileReading f (granted a)) (free.fileReading f) (reading-within h) k)
 
-  module _ (h : length f ≤ granted a .bytes) (k : granted a .records < length (recordsOf (before.fileReading f .it))) where
-    cut-there : Beyond (granted a .records) (fileReading f (granted a)) (before.fileReading f)
-    cut-there = cut-beyond (granted a .records) (fileReading f (granted a)) (before.fileReading f) (reading-within h) k
+  module _ (h : length f ≤ granted a .bytes) (k : granted a .records < length (recordsOf (free.fileReading f .it))) where
+    cut-there : Beyond (granted a .records) (fileReading f (granted a)) (free.fileReading f)
+    cut-there = cut-beyond (granted a .records) (fileReading f (granted a)) (free.fileReading f) (reading-within h) k
 
     -- "29 when .. its record number is beyond the caller's allowance .., at .. 14's [place] for records": where what is read up to there fits
     pub records-29 : loading f m a ≡ cond (fits 1024 m (used (tablesOf (fileReading f (granted a) .it)))) (refused 29) (refused 14)
@@ -131,23 +130,37 @@ module _ (f : List ℕ) (m : Nine) (a : Allowance) where
     pub short-14 : m .records / recordWidth ≤ granted a .records → loading f m a ≡ refused 14
     short-14 s = records-29 ∙ rw (fits-false m (fileReading f (granted a) .it) (λ _ t. omega (arith, cut-there .records)))
 
+-- "Examination loads the file first", "Follow loads": what a load refuses, both refuse by its number.
+module _ (f : List ℕ) (m : Nine) (a : Allowance) (e : ℕ) (r : loading f m a ≡ refused e) where
+  pub refused-load : load f m a .answer ≡ refused e
+  unfolding load
+  refused-load = rw r
+
+  pub refused-examine : examine f m a .answer ≡ refused e
+  unfolding examine examining
+  refused-examine = rw r
+
+  pub refused-follow : (n : ℕ) (bs : List ℕ) → follow f m a n bs .answer ≡ refused e
+  unfolding follow following
+  refused-follow n bs = rw r
+
 -- A file that loads: its reading without an allowance, which its tests accept, which nothing refuses and whose rows fit
 record Loads (f : List ℕ) (m : Nine) (c : Content) : Type 0 where
   small : length f ≤ desktop .bytes
   few : length (recordsOf c) ≤ desktop .records
-  reads : before.fileReading f .it ≡ c
-  loads : before.loading f m ≡ ok c
+  reads : free.fileReading f .it ≡ c
+  loads : free.loading f m ≡ ok c
   fit : T (fits 1024 m (used (tablesOf c)))
 
 loaded : (f : List ℕ) (m : Nine) (a : Allowance) (c : Content) → loading f m a ≡ ok c → Loads f m c
-unfolding loadingWithin before.loading
+unfolding loadingWithin free.loading
 loaded f m a c e =
     let r = loading-reading f m a c e in
     let h = reading-accepted f (granted a) (r .1 .0) (r .1 .1) in
     go r h (reading-within f m a (h .within))
   where
     go : (fileReading f (granted a) .it ≡ c) × ((to : ℕ) × fileReading f (granted a) .end ≡ ok to) × T (fits 1024 m (used (tablesOf c)))
-        → Accepted f (granted a .bytes) → Cut (granted a .records) (fileReading f (granted a)) (before.fileReading f) → Loads f m c
+        → Accepted f (granted a .bytes) → Cut (granted a .records) (fileReading f (granted a)) (free.fileReading f) → Loads f m c
     go r h (whole q k) =
         record {
           small = h .small;
@@ -159,29 +172,25 @@ loaded f m a c e =
     go r h (beyond b) = absurd (ok-refused (sym (b .ends) ∙ r .1 .1))
 
 -- the numbers of a file are within an allowance
-abbrev allows : Allowance → List ℕ → Content → Bool
+abbrev pub allows : Allowance → List ℕ → Content → Bool
 allows a f c = leb (length f) (granted a .bytes) && leb (length (recordsOf c)) (granted a .records)
-
--- of a file that loads, the allowance's two numbers alone decide
-exactly : (f : List ℕ) (m : Nine) (a : Allowance) (c : Content) → Loads f m c → loading f m a ≡ cond (allows a f c) (ok c) (refused 29)
-exactly f m a c x = by-bytes (leb (length f) (granted a .bytes)) refl (leb (length (recordsOf c)) (granted a .records)) refl
-  where
-    by-bytes : (s : Bool) → leb (length f) (granted a .bytes) ≡ s → (t : Bool) → leb (length (recordsOf c)) (granted a .records) ≡ t
-        → loading f m a ≡ cond (s && t) (ok c) (refused 29)
-    by-bytes false p t q = bytes-29 f m a (leb-false _ _ p) (x .small)
-    by-bytes true p true q = within-load f m a (leb-true _ _ p) (rw (x .reads) (leb-true _ _ q)) ∙ x .loads
-    by-bytes true p false q =
-        let h = leb-true (length f) (granted a .bytes) p in
-        let k : granted a .records < length (recordsOf (before.fileReading f .it)) = rw (x .reads) (leb-false _ _ q) in
-        let r = fileReading f (granted a) .it in
-        let l : Less r c = rw (x .reads) at (cut-there f m a h k .less) in
-        records-29 f m a h k ∙ rw (fits-less m r c l (x .fit))
 
 module _ (f : List ℕ) (m : Nine) where
   -- Of a file that loads under one allowance, any other says by its two numbers alone: the same content, or 29.
-  pub allowed-exactly : (a b : Allowance) (c : Content) → loading f m b ≡ ok c
-      → loading f m a ≡ cond (leb (length f) (granted a .bytes) && leb (length (recordsOf c)) (granted a .records)) (ok c) (refused 29)
-  allowed-exactly a b c e = exactly f m a c (loaded f m b c e)
+  pub allowed-exactly : (a b : Allowance) (c : Content) → loading f m b ≡ ok c → loading f m a ≡ cond (allows a f c) (ok c) (refused 29)
+  allowed-exactly a b c e =
+      by-numbers (loaded f m b c e) (leb (length f) (granted a .bytes)) refl (leb (length (recordsOf c)) (granted a .records)) refl
+    where
+      by-numbers : Loads f m c → (s : Bool) → leb (length f) (granted a .bytes) ≡ s → (t : Bool) → leb (length (recordsOf c)) (granted a .records) ≡ t
+          → loading f m a ≡ cond (s && t) (ok c) (refused 29)
+      by-numbers x false p t q = bytes-29 f m a (leb-false _ _ p) (x .small)
+      by-numbers x true p true q = within-load f m a (leb-true _ _ p) (rw (x .reads) (leb-true _ _ q)) ∙ x .loads
+      by-numbers x true p false q =
+          let h = leb-true (length f) (granted a .bytes) p in
+          let k : granted a .records < length (recordsOf (free.fileReading f .it)) = rw (x .reads) (leb-false _ _ q) in
+          let r = fileReading f (granted a) .it in
+          let l : Less r c = rw (x .reads) at (cut-there f m a h k .less) in
+          records-29 f m a h k ∙ rw (fits-less m r c l (x .fit))
 
   -- an allowance under which a file loads allows the file's numbers
   pub loaded-within : (a : Allowance) (c : Content) → loading f m a ≡ ok c → (length f ≤ granted a .bytes) × (length (recordsOf c) ≤ granted a .records)
@@ -255,30 +264,30 @@ same-passes f a b w p =
 
 -- under the desktop's allowance
 module _ (f : List ℕ) (m : Nine) where
-  desktop-loading : loading f m desktop ≡ before.loading f m
-  unfolding loadingWithin before.loading ending
+  desktop-loading : loading f m desktop ≡ free.loading f m
+  unfolding loadingWithin free.loading ending
   desktop-loading = go (reading-cut f desktop (tests-desktop f))
     where
-      go : Cut 1024 (fileReading f desktop) (before.fileReading f) → ending 1024 m (fileReading f desktop) ≡ ending 1024 m (before.fileReading f)
+      go : Cut 1024 (fileReading f desktop) (free.fileReading f) → ending 1024 m (fileReading f desktop) ≡ ending 1024 m (free.fileReading f)
       go (whole e _) = rw e
       go (beyond b) =
           let r = fileReading f desktop .it in
-          let r′ = before.fileReading f .it in
+          let r′ = free.fileReading f .it in
           rw (
             fits-false m r (λ n _. omega (arith, b .records)),
             fits-false m r′ (λ n _. omega (arith, b .records, b .less .records, records-length r, records-length r′)),
           )
 
-  pub desktop-load : load f m desktop ≡ before.load f m
-  unfolding load before.load
+  pub desktop-load : load f m desktop ≡ free.load f m
+  unfolding load free.load
   desktop-load = rw desktop-loading
 
-  pub desktop-examine : examine f m desktop ≡ before.examine f m
-  unfolding examine examining before.examine before.examining
+  pub desktop-examine : examine f m desktop ≡ free.examine f m
+  unfolding examine examining free.examine free.examining
   desktop-examine = rw desktop-loading
 
-  pub desktop-follow : (n : ℕ) (bs : List ℕ) → follow f m desktop n bs ≡ before.follow f m n bs
-  unfolding follow following before.follow before.following
+  pub desktop-follow : (n : ℕ) (bs : List ℕ) → follow f m desktop n bs ≡ free.follow f m n bs
+  unfolding follow following free.follow free.following
   desktop-follow n bs = rw desktop-loading
 
   -- "A larger number in it counts as the desktop's."

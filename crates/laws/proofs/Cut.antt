@@ -4,7 +4,7 @@
 use Prim.Native.Nat.{ℕ, zero, suc, _+_, _-_, _≤_, _<_, suc-le-suc}
 use native.Mathlib.Nat.{le-refl}
 use native.Mathlib.Omega.{arith}
-use mathlib.Core.Path.{_≡_, refl, sym, ap, _∙_}
+use mathlib.Core.Path.{_≡_, refl, ap, _∙_}
 use mathlib.Core.Bool.{Bool, true, false, cond}
 use mathlib.Core.List.{List, [], _∷_}
 use mathlib.Core.Option.{Option, none, some}
@@ -12,18 +12,18 @@ use lib.Dec.{leb, eqb, eqb·suc-zero}
 use lib.ListN.{length, drop, length-append}
 use borrow.Author.Tests.{le-leb, lt-leb}
 use Rattle.format.specs.Bytes.{Answer, ok, refused, bind, onAnswer, refuse, first, has, u32At}
-use Rattle.format.specs.Reading.{Read, reading, Part, part, add, andThen}
-use Rattle.format.specs.Irep.{body, Rec, recordAt, recordsFrom, irepSection}
-use Rattle.format.specs.Allowance.{Allowance, desktop}
-use Rattle.format.specs.File.{Content, content, isMark, once, afterIrep, sectionAt, sections, nothing, fileRefusal, fileReading}
 use Rattle.format.specs.Headers.{irep, lvar, dbg, end}
-use Rattle.format.proofs.Answers.{either}
+use Rattle.format.specs.Reading.{Read, reading, Part, part, add, andThen}
+use Rattle.format.specs.Allowance.{Allowance, desktop}
+use Rattle.format.specs.Irep.{body, Rec, recordAt, recordsFrom, irepSection}
 use Rattle.format.specs.Lvar.{Lvar}
 use Rattle.format.specs.Debug.{Debug}
+use Rattle.format.specs.File.{Content, content, isMark, once, afterIrep, sectionAt, sections, nothing, fileRefusal, fileReading}
 use Rattle.format.specs.Load.{orNone, recordsOf, tablesOf}
+use Rattle.format.proofs.Answers.{either}
 use Rattle.format.proofs.Places.{records-length}
 use Rattle.bounds.proofs.Grows.{Ordered, Less, less-less, section-grows, sections-grow}
-use Rattle.laws.proofs.Unlimited as before
+use Rattle.laws.proofs.Unlimited as free
 
 -- a reading r′ under an allowance of x records, and the reading r without
 pub record Beyond (x : ℕ) (r′ r : Part Content) : Type 0 where
@@ -48,58 +48,58 @@ cut-beyond x r′ r (whole e h) k = absurd (omega arith)
 cut-beyond x r′ r (beyond b) k = b
 
 -- records alone, as a content
+abbrev just : List Rec → Content
+just rs = content (some rs) none none
+
 abbrev only : Read Rec → Part Content
-only r = part (content (some (r .rows)) none none) (r .end)
+only r = part (just (r .rows)) (r .end)
+
+-- no table has fewer rows, by the four that records fill
+less-just : (rs′ rs : List Rec) → length rs′ ≤ length rs → length (tablesOf (just rs′) .handlers) ≤ length (tablesOf (just rs) .handlers)
+    → length (tablesOf (just rs′) .pool) ≤ length (tablesOf (just rs) .pool) → length (tablesOf (just rs′) .symbols) ≤ length (tablesOf (just rs) .symbols)
+    → Less (just rs′) (just rs)
+less-just rs′ rs n h p s =
+    record {
+      records = omega (arith, records-length (just rs′), records-length (just rs));
+      handlers = h;
+      pool = p;
+      symbols = s;
+      strings = le-refl _;
+      names = le-refl _;
+      fileNames = le-refl _;
+      files = le-refl _;
+      lines = le-refl _;
+    }
 
 -- one more record before both
-less-more : (r : Rec) (rs′ rs : List Rec) → Less (content (some rs′) none none) (content (some rs) none none)
-    → Less (content (some (r ∷ rs′)) none none) (content (some (r ∷ rs)) none none)
+less-more : (r : Rec) (rs′ rs : List Rec) → Less (just rs′) (just rs) → Less (just (r ∷ rs′)) (just (r ∷ rs))
 less-more r rs′ rs l =
-    record {
-      records = omega (arith, l .records, records-length (content (some rs′) none none), records-length (content (some rs) none none), records-length (content (some (r ∷ rs′)) none none), records-length (content (some (r ∷ rs)) none none));
-      handlers = simp length-append (omega (arith, l .handlers));
-      pool = simp length-append (omega (arith, l .pool));
-      symbols = simp length-append (omega (arith, l .symbols));
-      strings = le-refl _;
-      names = le-refl _;
-      fileNames = le-refl _;
-      files = le-refl _;
-      lines = le-refl _;
-    }
+    less-just (r ∷ rs′) (r ∷ rs) (omega (arith, l .records, records-length (just rs′), records-length (just rs))) (simp length-append (omega (arith, l .handlers)))
+    (simp length-append (omega (arith, l .pool))) (simp length-append (omega (arith, l .symbols)))
 
 -- the record that is beyond has no lists yet
-less-bare : (r′ r : Rec) (rs : List Rec) → r′ .body ≡ body [] [] [] → Less (content (some (r′ ∷ [])) none none) (content (some (r ∷ rs)) none none)
-less-bare r′ r rs e =
-    record {
-      records = omega (arith, records-length (content (some (r′ ∷ [])) none none), records-length (content (some (r ∷ rs)) none none));
-      handlers = rw e (omega arith);
-      pool = rw e (omega arith);
-      symbols = rw e (omega arith);
-      strings = le-refl _;
-      names = le-refl _;
-      fileNames = le-refl _;
-      files = le-refl _;
-      lines = le-refl _;
-    }
+less-bare : (r′ r : Rec) (rs : List Rec) → r′ .body ≡ body [] [] [] → Less (just (r′ ∷ [])) (just (r ∷ rs))
+less-bare r′ r rs e = less-just (r′ ∷ []) (r ∷ rs) (omega arith) (rw e (omega arith)) (rw e (omega arith)) (rw e (omega arith))
 
 add-cut : (r : Rec) (x : ℕ) (p′ p : Read Rec) → Cut x (only p′) (only p) → Cut (suc x) (only (add r p′)) (only (add r p))
 add-cut r x p′ p (whole e h) =
-    whole (ap (λ (q : Part Content). part (content (some (r ∷ recordsOf (q .it))) none none) (q .end)) e) (suc-le-suc h)
+    whole (ap (λ (q : Part Content). part (just (r ∷ recordsOf (q .it))) (q .end)) e) (suc-le-suc h)
 add-cut r x p′ p (beyond b) = beyond (record { ends = b .ends; records = ap suc (b .records); less = less-more r (p′ .rows) (p .rows) (b .less) })
 
--- where both go on by the same, after a test of the same
+-- a test behind both
 bind-cut : (x : ℕ) (p′ p : Part Content) (k : ℕ → Answer ℕ) → Cut x p′ p → Cut x (part (p′ .it) (bind (p′ .end) k)) (part (p .it) (bind (p .end) k))
 bind-cut x p′ p k (whole e h) = whole (ap (λ (q : Part Content). part (q .it) (bind (q .end) k)) e) h
 bind-cut x p′ p k (beyond b) = beyond (record { ends = rw (b .ends); records = b .records; less = b .less })
 
+-- what holds either way of a test of two holds of their outcomes
 ways : {A : Type 0} (P : A → A → Type 0) (b : Bool) (x′ x y′ y : A) → (b ≡ true → P x′ x) → (b ≡ false → P y′ y) → P (cond b x′ y′) (cond b x y)
 ways P true x′ x y′ y h g = h refl
 ways P false x′ x y′ y h g = g refl
 
 module _ (f : List ℕ) (base size : ℕ) where
   -- a record that is allowed
-  record-same : (x at : ℕ) → recordAt f base (suc x) at ≡ before.recordAt f base at
-  unfolding recordAt before.recordAt
+  record-same : (x at : ℕ) → recordAt f base (suc x) at ≡ free.recordAt f base at
+  unfolding recordAt free.recordAt
   record-same x at = rw (eqb·suc-zero x)
 
   -- and one that is not
@@ -107,30 +107,33 @@ module _ (f : List ℕ) (base size : ℕ) where
   unfolding recordAt
   record-beyond at = (refl, refl)
 
-  records-cut : (n x at : ℕ) → Cut x (only (recordsFrom f base size n x at)) (only (before.recordsFrom f base size n at))
-  unfolding recordsFrom before.recordsFrom
+  records-cut : (n x at : ℕ) → Cut x (only (recordsFrom f base size n x at)) (only (free.recordsFrom f base size n at))
+  unfolding recordsFrom free.recordsFrom
   records-cut zero x at = whole refl (omega arith)
   records-cut (suc n) x at =
       let P : Read Rec → Read Rec → Type 0 = λ p′ p. Cut x (only p′) (only p) in
       ways P (leb size at) _ _ _ _ (λ _. whole refl (omega arith))
       (λ _. ways P (has f at 16) _ _ _ _ (λ _. next x (records-cut n)) (λ _. whole refl (omega arith)))
     where
-      next : (x : ℕ) → ((x at : ℕ) → Cut x (only (recordsFrom f base size n x at)) (only (before.recordsFrom f base size n at)))
+      next : (x : ℕ) → ((x at : ℕ) → Cut x (only (recordsFrom f base size n x at)) (only (free.recordsFrom f base size n at)))
           → Cut x (only (let r = recordAt f base x at in add (r .it) (andThen (r .end) (recordsFrom f base size n (x - 1)))))
-          (only (let r = before.recordAt f base at in add (r .it) (andThen (r .end) (before.recordsFrom f base size n))))
+          (only (let r = free.recordAt f base at in add (r .it) (andThen (r .end) (free.recordsFrom f base size n))))
       next zero ih =
           let b = record-beyond at in
-          let r = before.recordAt f base at in
-          let rs = andThen (r .end) (before.recordsFrom f base size n) .rows in
+          let r = free.recordAt f base at in
+          let rs = andThen (r .end) (free.recordsFrom f base size n) .rows in
           rw (b .0) (beyond (record { ends = refl; records = refl; less = less-bare (recordAt f base 0 at .it) (r .it) rs (b .1) }))
-      next (suc x) ih = let r = before.recordAt f base at in let k : suc x - 1 ≡ x = omega arith in rw (record-same x at, k) (add-cut (r .it) x _ _ (by-end (r .end)))
+      next (suc x) ih =
+          let r = free.recordAt f base at in
+          let k : suc x - 1 ≡ x = omega arith in
+          rw (record-same x at, k) (add-cut (r .it) x _ _ (by-end (r .end)))
         where
-          by-end : (e : Answer ℕ) → Cut x (only (andThen e (recordsFrom f base size n x))) (only (andThen e (before.recordsFrom f base size n)))
+          by-end : (e : Answer ℕ) → Cut x (only (andThen e (recordsFrom f base size n x))) (only (andThen e (free.recordsFrom f base size n)))
           by-end (ok to) = ih x to
           by-end (refused e) = whole refl (omega arith)
 
-irep-cut : (f : List ℕ) (base x : ℕ) → Cut x (only (irepSection f base x)) (only (before.irepSection f base))
-unfolding irepSection before.irepSection
+irep-cut : (f : List ℕ) (base x : ℕ) → Cut x (only (irepSection f base x)) (only (free.irepSection f base))
+unfolding irepSection free.irepSection
 irep-cut f base x =
     let P : Read Rec → Read Rec → Type 0 = λ p′ p. Cut x (only p′) (only p) in
     let none-read : Cut x (only (reading [] (refused 7))) (only (reading [] (refused 7))) = whole refl (omega arith) in
@@ -154,8 +157,8 @@ after-stays c k h = go (c .irep)
     go (some rs) = h rs
 
 module _ (f : List ℕ) where
-  irep-stays : (c : Content) (at : ℕ) → isMark f at irep ≡ false → Stays c (before.sectionAt f c at)
-  unfolding before.sectionAt
+  irep-stays : (c : Content) (at : ℕ) → isMark f at irep ≡ false → Stays c (free.sectionAt f c at)
+  unfolding free.sectionAt
   irep-stays c at q =
       rw q
       (either (Stays c) (isMark f at lvar) _ _ (λ _. after-stays c _ (λ rs. once-stays (c .lvar) c _ refl))
@@ -163,44 +166,58 @@ module _ (f : List ℕ) where
       (λ _. either (Stays c) (isMark f at end) _ _ (λ _. refl) (λ _. refl))))
 
   -- nor does a second IREP
-  irep-keeps : (c : Content) (at : ℕ) (rs : List Rec) → c .irep ≡ some rs → before.sectionAt f c at .it .irep ≡ some rs
-  unfolding before.sectionAt
+  irep-keeps : (c : Content) (at : ℕ) (rs : List Rec) → c .irep ≡ some rs → free.sectionAt f c at .it .irep ≡ some rs
+  unfolding free.sectionAt
   irep-keeps c at rs e = go (isMark f at irep) refl
     where
-      go : (b : Bool) → isMark f at irep ≡ b → before.sectionAt f c at .it .irep ≡ some rs
+      go : (b : Bool) → isMark f at irep ≡ b → free.sectionAt f c at .it .irep ≡ some rs
       go true q = rw (q, e)
       go false q = irep-stays c at q ∙ e
 
+-- what follows a section: k, from its end on, or its refusal
+abbrev on : (Content → ℕ → Part Content) → ℕ → Part Content → Part Content
+on k at s = onAnswer (s .end) (λ size. k (s .it) (at + size)) (λ e. part (s .it) (refused e))
+
+on-either : (P : Part Content → Part Content → Type 0) (k′ k : Content → ℕ → Part Content) (at : ℕ) (s : Part Content)
+    → ((at : ℕ) → P (k′ (s .it) at) (k (s .it) at)) → ((e : ℕ) → P (part (s .it) (refused e)) (part (s .it) (refused e))) → P (on k′ at s) (on k at s)
+on-either P k′ k at s h g = by-end (s .end)
+  where
+    by-end : (a : Answer ℕ)
+        → P (onAnswer a (λ size. k′ (s .it) (at + size)) (λ e. part (s .it) (refused e))) (onAnswer a (λ size. k (s .it) (at + size)) (λ e. part (s .it) (refused e)))
+    by-end (ok size) = h (at + size)
+    by-end (refused e) = g e
+
 module _ (f : List ℕ) (x : ℕ) where
   -- behind IREP a section is the same: a second IREP is 6
-  section-behind : (c : Content) (at : ℕ) (rs : List Rec) → c .irep ≡ some rs → sectionAt f x c at ≡ before.sectionAt f c at
-  unfolding sectionAt before.sectionAt
+  section-behind : (c : Content) (at : ℕ) (rs : List Rec) → c .irep ≡ some rs → sectionAt f x c at ≡ free.sectionAt f c at
+  unfolding sectionAt free.sectionAt
   section-behind c at rs e = rw e
 
-  sections-behind : (n : ℕ) (c : Content) (at : ℕ) (rs : List Rec) → c .irep ≡ some rs → sections f x n c at ≡ before.sections f n c at
-  unfolding sections before.sections
+  sections-behind : (n : ℕ) (c : Content) (at : ℕ) (rs : List Rec) → c .irep ≡ some rs → sections f x n c at ≡ free.sections f n c at
+  unfolding sections free.sections
   sections-behind zero c at rs e = refl
   sections-behind (suc n) c at rs e =
-      let s = before.sectionAt f c at in
+      let s = free.sectionAt f c at in
       let P : Part Content → Part Content → Type 0 = λ p′ p. p′ ≡ p in
       rw (section-behind c at rs e)
-      (ways P (has f at 4) _ _ _ _ (λ _. by-end (s .end) (λ size. sections-behind n (s .it) (at + size) rs (irep-keeps f c at rs e))) (λ _. refl))
+      (ways P (has f at 4) _ _ _ _
+      (λ _. on-either P (sections f x n) (free.sections f n) at s (λ to. sections-behind n (s .it) to rs (irep-keeps f c at rs e)) (λ _. refl)) (λ _. refl))
+
+  -- so there the sections only add
+  free-grow : (n : ℕ) (c : Content) (at : ℕ) → 1 ≤ length (recordsOf c) → Less c (free.sections f n c at .it)
+  free-grow n c at h = go (c .irep) refl
     where
-      by-end : (a : Answer ℕ)
-          → let s = before.sectionAt f c at in
-          ((size : ℕ) → sections f x n (s .it) (at + size) ≡ before.sections f n (s .it) (at + size))
-          → onAnswer a (λ size. sections f x n (s .it) (at + size)) (λ e. part (s .it) (refused e))
-          ≡ onAnswer a (λ size. before.sections f n (s .it) (at + size)) (λ e. part (s .it) (refused e))
-      by-end (ok size) ih = ih size
-      by-end (refused k) ih = refl
+      go : (i : Option (List Rec)) → c .irep ≡ i → Less c (free.sections f n c at .it)
+      go none e = absurd (let k : 1 ≤ 0 = rw e at h in omega arith)
+      go (some rs) e = rw (← sections-behind n c at rs e) (sections-grow f x n c at (rw e tt))
 
   section-cut : (i : Option (List Rec)) (l : Option Lvar) (d : Option Debug) → Ordered i l d → length (orNone i) ≤ x → (at : ℕ)
-      → Cut x (sectionAt f x (content i l d) at) (before.sectionAt f (content i l d) at)
-  unfolding sectionAt before.sectionAt
+      → Cut x (sectionAt f x (content i l d) at) (free.sectionAt f (content i l d) at)
+  unfolding sectionAt free.sectionAt
   section-cut i l d o h at = by-mark (isMark f at irep) refl i l d o h
     where
       by-mark : (b : Bool) → isMark f at irep ≡ b → (i : Option (List Rec)) (l : Option Lvar) (d : Option Debug) → Ordered i l d → length (orNone i) ≤ x
-          → Cut x (sectionAt f x (content i l d) at) (before.sectionAt f (content i l d) at)
+          → Cut x (sectionAt f x (content i l d) at) (free.sectionAt f (content i l d) at)
       by-mark false q i l d o h = whole (rw q) (rw (irep-stays f (content i l d) at q) h)
       by-mark true q (some rs) l d o h = rw q (whole refl h)
       by-mark true q none none none o h = rw q (irep-cut (drop at f) at x)
@@ -208,59 +225,36 @@ module _ (f : List ℕ) (x : ℕ) where
       by-mark true q none (some l) none o h = absurd o
       by-mark true q none (some l) (some d) o h = absurd o
 
-  -- behind IREP the sections only add
-  before-grow : (n : ℕ) (c : Content) (at : ℕ) → 1 ≤ length (recordsOf c) → Less c (before.sections f n c at .it)
-  before-grow n c at h = go (c .irep) refl
-    where
-      go : (i : Option (List Rec)) → c .irep ≡ i → Less c (before.sections f n c at .it)
-      go none e = absurd (let k : 1 ≤ 0 = rw e at h in omega arith)
-      go (some rs) e = rw (← sections-behind n c at rs e) (sections-grow f x n c at (rw e tt))
-
-  -- where the sections under the allowance go on, and the others
-  on : ℕ → ℕ → Part Content → Part Content
-  on n at s = onAnswer (s .end) (λ size. sections f x n (s .it) (at + size)) (λ e. part (s .it) (refused e))
-
-  before-on : ℕ → ℕ → Part Content → Part Content
-  before-on n at s = onAnswer (s .end) (λ size. before.sections f n (s .it) (at + size)) (λ e. part (s .it) (refused e))
-
-  on-cut : (n at : ℕ) (s′ s : Part Content) → Cut x s′ s → Ordered (s′ .it .irep) (s′ .it .lvar) (s′ .it .dbg)
-      → ((c : Content) (at : ℕ) → Ordered (c .irep) (c .lvar) (c .dbg) → length (recordsOf c) ≤ x → Cut x (sections f x n c at) (before.sections f n c at))
-      → Cut x (on n at s′) (before-on n at s)
-  unfolding on before-on
-  on-cut n at s′ s (whole e h) o ih = rw e (by-end (s .end))
-    where
-      by-end : (a : Answer ℕ)
-          → Cut x (onAnswer a (λ size. sections f x n (s .it) (at + size)) (λ e. part (s .it) (refused e)))
-          (onAnswer a (λ size. before.sections f n (s .it) (at + size)) (λ e. part (s .it) (refused e)))
-      by-end (ok size) = ih (s .it) (at + size) (rw e at o) h
-      by-end (refused k) = whole refl h
-  on-cut n at s′ s (beyond b) o ih = rw (b .ends) (beyond (record { ends = refl; records = b .records; less = by-end (s .end) }))
-    where
-      by-end : (a : Answer ℕ) → Less (s′ .it) (onAnswer a (λ size. before.sections f n (s .it) (at + size)) (λ e. part (s .it) (refused e)) .it)
-      by-end (ok size) =
-          let h : 1 ≤ length (recordsOf (s .it)) = omega (arith, beyond-more x s′ s b) in
-          less-less (s′ .it) (s .it) _ (b .less) (before-grow n (s .it) (at + size) h)
-      by-end (refused k) = b .less
-
   pub sections-cut : (n : ℕ) (c : Content) (at : ℕ) → Ordered (c .irep) (c .lvar) (c .dbg) → length (recordsOf c) ≤ x
-      → Cut x (sections f x n c at) (before.sections f n c at)
-  unfolding sections before.sections on before-on
+      → Cut x (sections f x n c at) (free.sections f n c at)
+  unfolding sections free.sections
   sections-cut zero c at o h = whole refl h
   sections-cut (suc n) c at o h =
       ways (Cut x) (has f at 4) _ _ _ _
-      (λ _. on-cut n at (sectionAt f x c at) (before.sectionAt f c at) (section-cut (c .irep) (c .lvar) (c .dbg) o h at)
+      (λ _. next (sectionAt f x c at) (free.sectionAt f c at) (section-cut (c .irep) (c .lvar) (c .dbg) o h at)
       (section-grows f at x (c .irep) (c .lvar) (c .dbg) o .ordered) (sections-cut n))
       (λ _. whole refl h)
+    where
+      next : (s′ s : Part Content) → Cut x s′ s → Ordered (s′ .it .irep) (s′ .it .lvar) (s′ .it .dbg)
+          → ((c : Content) (at : ℕ) → Ordered (c .irep) (c .lvar) (c .dbg) → length (recordsOf c) ≤ x → Cut x (sections f x n c at) (free.sections f n c at))
+          → Cut x (on (sections f x n) at s′) (on (free.sections f n) at s)
+      next s′ s (whole e h) o ih =
+          rw e (on-either (Cut x) (sections f x n) (free.sections f n) at s (λ to. ih (s .it) to (rw e at o) h) (λ _. whole refl h))
+      next s′ s (beyond b) o ih =
+          let k = free.sections f n in
+          let h : 1 ≤ length (recordsOf (s .it)) = omega (arith, beyond-more x s′ s b) in
+          let l = on-either (λ _ p. Less (s′ .it) (p .it)) k k at s (λ to. less-less (s′ .it) (s .it) _ (b .less) (free-grow n (s .it) to h)) (λ _. b .less) in
+          rw (b .ends) (beyond (record { ends = refl; records = b .records; less = l }))
 
 module _ (f : List ℕ) where
   -- a file within the allowance of bytes is tested as without one
-  pub tests-within : (bytes : ℕ) → length f ≤ bytes → fileRefusal f bytes ≡ before.fileRefusal f
-  unfolding fileRefusal before.fileRefusal
+  pub tests-within : (bytes : ℕ) → length f ≤ bytes → fileRefusal f bytes ≡ free.fileRefusal f
+  unfolding fileRefusal free.fileRefusal
   tests-within bytes h = rw (le-leb (length f) bytes h)
 
   -- and every file under the desktop's
-  pub tests-desktop : fileRefusal f (desktop .bytes) ≡ before.fileRefusal f
-  unfolding fileRefusal before.fileRefusal
+  pub tests-desktop : fileRefusal f (desktop .bytes) ≡ free.fileRefusal f
+  unfolding fileRefusal free.fileRefusal
   tests-desktop = go (leb (length f) 65536) _
     where
       go : (b : Bool) (n : ℕ) → first (refuse 1 b) (first (refuse 29 b) n) ≡ first (refuse 1 b) n
@@ -276,8 +270,9 @@ module _ (f : List ℕ) where
   unfolding fileReading
   reading-beyond a b h = rw (tests-beyond (a .bytes) b h)
 
-  pub reading-cut : (a : Allowance) → fileRefusal f (a .bytes) ≡ before.fileRefusal f → Cut (a .records) (fileReading f a) (before.fileReading f)
-  unfolding fileReading before.fileReading
+  pub reading-cut : (a : Allowance) → fileRefusal f (a .bytes) ≡ free.fileRefusal f → Cut (a .records) (fileReading f a) (free.fileReading f)
+  unfolding fileReading free.fileReading
   reading-cut a e =
       rw e
-      (ways (Cut (a .records)) (eqb (before.fileRefusal f) 0) _ _ _ _ (λ _. sections-cut f (a .records) (length f) nothing 20 tt (omega arith)) (λ _. whole refl (omega arith)))
+      (ways (Cut (a .records)) (eqb (free.fileRefusal f) 0) _ _ _ _
+      (λ _. sections-cut f (a .records) (length f) nothing 20 tt (omega arith)) (λ _. whole refl (omega arith)))
