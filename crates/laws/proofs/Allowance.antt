@@ -26,7 +26,7 @@ use Rattle.bounds.proofs.Grows.{Less}
 use Rattle.layout.proofs.Ends.{reading-accepted}
 use Rattle.layout.proofs.Inside.{loading-reading, loading-held}
 use Rattle.laws.proofs.Unlimited as free
-use Rattle.laws.proofs.Cut.{Beyond, Cut, whole, beyond, cut-whole, cut-beyond, tests-within, tests-desktop, reading-beyond, reading-cut}
+use Rattle.laws.proofs.Cut.{Beyond, Cut, whole, beyond, cut-whole, cut-beyond, reading-29, reading-cut}
 
 -- within the lesser of two numbers is within both
 pub least-iff : (k a b : ℕ) → (k ≤ least a b) ↔ ((k ≤ a) × (k ≤ b))
@@ -88,47 +88,55 @@ fits-nothing m =
       leb·zero (m .lines / 2),
     )
 
--- what needs more records than there are rows, or than 1,024, does not fit
-fits-false : (m : Nine) (c : Content) → (length (recordsOf c) ≤ 1024 → length (recordsOf c) ≤ m .records / recordWidth → ⊥) → fits 1024 m (used (tablesOf c)) ≡ false
+-- what fits has no more records than there are rows, nor than 1,024
+pub fits-few : (m : Nine) (c : Content) → fits 1024 m (used (tablesOf c)) ≡ true → (length (recordsOf c) ≤ 1024) × (length (recordsOf c) ≤ m .records / recordWidth)
 unfolding fits
+fits-few m c e =
+    let t : T (fits 1024 m (used (tablesOf c))) = subst T (sym e) tt in
+    let l = records-length c in
+    let few : length (tablesOf c .records) ≤ 1024 = leb→le _ _ (search both depth 12) in
+    let lent : length (tablesOf c .records) ≤ m .records / recordWidth = leb→le _ _ (search both depth 12) in
+    (omega arith, omega arith)
+
+fits-false : (m : Nine) (c : Content) → (length (recordsOf c) ≤ 1024 → length (recordsOf c) ≤ m .records / recordWidth → ⊥) → fits 1024 m (used (tablesOf c)) ≡ false
 fits-false m c n = go (fits 1024 m (used (tablesOf c))) refl
   where
     go : (b : Bool) → fits 1024 m (used (tablesOf c)) ≡ b → b ≡ false
     go false e = refl
-    go true e =
-        let t : T (fits 1024 m (used (tablesOf c))) = subst T (sym e) tt in
-        let l = records-length c in
-        let few : length (tablesOf c .records) ≤ 1024 = leb→le _ _ (search both depth 12) in
-        let lent : length (tablesOf c .records) ≤ m .records / recordWidth = leb→le _ _ (search both depth 12) in
-        absurd (n (omega arith) (omega arith))
+    go true e = let k = fits-few m c e in absurd (n (k .0) (k .1))
 
 -- what a load under an allowance answers, in each case
 module _ (f : List ℕ) (m : Nine) (a : Allowance) where
   -- "29 when the file .. is beyond the caller's allowance but within the desktop's, at 1's place for bytes"
   pub bytes-29 : granted a .bytes < length f → length f ≤ desktop .bytes → loading f m a ≡ refused 29
   unfolding loadingWithin ending
-  bytes-29 b h = rw (reading-beyond f (granted a) b h, fits-nothing m)
+  bytes-29 b h = rw (reading-29 f (granted a) b h, fits-nothing m)
 
   reading-within : length f ≤ granted a .bytes → Cut (granted a .records) (fileReading f (granted a)) (free.fileReading f)
-  reading-within h = reading-cut f (granted a) (tests-within f (granted a .bytes) h)
+  reading-within h = reading-cut f (granted a) (λ b _. omega arith)
 
   -- a file within the allowance is loaded as without one
   pub within-load : length f ≤ granted a .bytes → length (recordsOf (free.fileReading f .it)) ≤ granted a .records → loading f m a ≡ free.loading f m
   unfolding loadingWithin free.loading
   within-load h k = rw (cut-whole (granted a .records) (fileReading f (granted a)) (free.fileReading f) (reading-within h) k)
 
+  -- a reading that is cut: 29 where what is read up to there fits
+  pub cut-load : Beyond (granted a .records) (fileReading f (granted a)) (free.fileReading f)
+      → loading f m a ≡ cond (fits 1024 m (used (tablesOf (fileReading f (granted a) .it)))) (refused 29) (refused 14)
+  unfolding loadingWithin ending
+  cut-load b = rw (b .ends)
+
   module _ (h : length f ≤ granted a .bytes) (k : granted a .records < length (recordsOf (free.fileReading f .it))) where
     cut-there : Beyond (granted a .records) (fileReading f (granted a)) (free.fileReading f)
     cut-there = cut-beyond (granted a .records) (fileReading f (granted a)) (free.fileReading f) (reading-within h) k
 
-    -- "29 when .. its record number is beyond the caller's allowance .., at .. 14's [place] for records": where what is read up to there fits
+    -- "29 when .. its record number is beyond the caller's allowance .., at .. 14's [place] for records"
     pub records-29 : loading f m a ≡ cond (fits 1024 m (used (tablesOf (fileReading f (granted a) .it)))) (refused 29) (refused 14)
-    unfolding loadingWithin ending
-    records-29 = rw (cut-there .ends)
+    records-29 = cut-load cut-there
 
     -- "where the lent table is too short as well, 14"
-    pub short-14 : m .records / recordWidth ≤ granted a .records → loading f m a ≡ refused 14
-    short-14 s = records-29 ∙ rw (fits-false m (fileReading f (granted a) .it) (λ _ t. omega (arith, cut-there .records)))
+    pub short-table-14 : m .records / recordWidth ≤ granted a .records → loading f m a ≡ refused 14
+    short-table-14 s = records-29 ∙ rw (fits-false m (fileReading f (granted a) .it) (λ _ t. omega (arith, cut-there .records)))
 
 -- "Examination loads the file first", "Follow loads": what a load refuses, both refuse by its number.
 module _ (f : List ℕ) (m : Nine) (a : Allowance) (e : ℕ) (r : loading f m a ≡ refused e) where
@@ -262,11 +270,11 @@ pub same-passes : (f : List ℕ) (a b : Allowance) → Within a b → FilePasses
 same-passes f a b w p =
     record { tables = p .tables; content = p .content; loads = same-content f (p .tables) a b (p .content) (p .loads) w; passes = p .passes }
 
--- under the desktop's allowance
+-- Under the desktop's allowance every answer is the one without an allowance.
 module _ (f : List ℕ) (m : Nine) where
-  desktop-loading : loading f m desktop ≡ free.loading f m
+  pub desktop-loading : loading f m desktop ≡ free.loading f m
   unfolding loadingWithin free.loading ending
-  desktop-loading = go (reading-cut f desktop (tests-desktop f))
+  desktop-loading = go (reading-cut f desktop (λ b h. omega arith))
     where
       go : Cut 1024 (fileReading f desktop) (free.fileReading f) → ending 1024 m (fileReading f desktop) ≡ ending 1024 m (free.fileReading f)
       go (whole e _) = rw e
@@ -292,7 +300,7 @@ module _ (f : List ℕ) (m : Nine) where
 
   -- "A larger number in it counts as the desktop's."
   module _ (a : Allowance) (w : Within desktop a) where
-    larger-loading : loading f m a ≡ loading f m desktop
+    pub larger-loading : loading f m a ≡ loading f m desktop
     larger-loading = rw (granted-larger a w)
 
     pub larger-load : load f m a ≡ load f m desktop

@@ -10,7 +10,7 @@ use mathlib.Core.List.{List, [], _∷_}
 use mathlib.Core.Option.{Option, none, some}
 use lib.Dec.{leb, eqb, eqb·suc-zero}
 use lib.ListN.{length, drop, length-append}
-use borrow.Author.Tests.{le-leb, lt-leb}
+use borrow.Author.Tests.{leb-true, leb-false, le-leb, lt-leb}
 use Rattle.format.specs.Bytes.{Answer, ok, refused, bind, onAnswer, refuse, first, has, u32At}
 use Rattle.format.specs.Headers.{irep, lvar, dbg, end}
 use Rattle.format.specs.Reading.{Read, reading, Part, part, add, andThen}
@@ -36,7 +36,7 @@ pub data Cut (x : ℕ) (r′ r : Part Content) : Type 0 where
   beyond : Beyond x r′ r → Cut x r′ r
 
 -- which of the two, by the number of records that are read
-beyond-more : (x : ℕ) (r′ r : Part Content) → Beyond x r′ r → x < length (recordsOf (r .it))
+pub beyond-more : (x : ℕ) (r′ r : Part Content) → Beyond x r′ r → x < length (recordsOf (r .it))
 beyond-more x r′ r b = omega (arith, b .records, b .less .records, records-length (r′ .it), records-length (r .it))
 
 pub cut-whole : (x : ℕ) (r′ r : Part Content) → Cut x r′ r → length (recordsOf (r .it)) ≤ x → r′ ≡ r
@@ -51,7 +51,7 @@ cut-beyond x r′ r (beyond b) k = b
 abbrev just : List Rec → Content
 just rs = content (some rs) none none
 
-abbrev only : Read Rec → Part Content
+abbrev pub only : Read Rec → Part Content
 only r = part (just (r .rows)) (r .end)
 
 -- no table has fewer rows, by the four that records fill
@@ -107,7 +107,7 @@ module _ (f : List ℕ) (base size : ℕ) where
   unfolding recordAt
   record-beyond at = (refl, refl)
 
-  records-cut : (n x at : ℕ) → Cut x (only (recordsFrom f base size n x at)) (only (free.recordsFrom f base size n at))
+  pub records-cut : (n x at : ℕ) → Cut x (only (recordsFrom f base size n x at)) (only (free.recordsFrom f base size n at))
   unfolding recordsFrom free.recordsFrom
   records-cut zero x at = whole refl (omega arith)
   records-cut (suc n) x at =
@@ -247,32 +247,29 @@ module _ (f : List ℕ) (x : ℕ) where
           rw (b .ends) (beyond (record { ends = refl; records = b .records; less = l }))
 
 module _ (f : List ℕ) where
-  -- a file within the allowance of bytes is tested as without one
-  pub tests-within : (bytes : ℕ) → length f ≤ bytes → fileRefusal f bytes ≡ free.fileRefusal f
-  unfolding fileRefusal free.fileRefusal
-  tests-within bytes h = rw (le-leb (length f) bytes h)
+  -- a file is not beyond the allowed bytes and within the desktop's: where it is within them, or beyond the desktop's
+  abbrev pub Allowed : ℕ → Type 0
+  Allowed bytes = bytes < length f → length f ≤ desktop .bytes → ⊥
 
-  -- and every file under the desktop's
-  pub tests-desktop : fileRefusal f (desktop .bytes) ≡ free.fileRefusal f
+  -- it is tested as without an allowance
+  pub tests-same : (bytes : ℕ) → Allowed bytes → fileRefusal f bytes ≡ free.fileRefusal f
   unfolding fileRefusal free.fileRefusal
-  tests-desktop = go (leb (length f) 65536) _
+  tests-same bytes x = go (leb (length f) 65536) refl (leb (length f) bytes) refl _
     where
-      go : (b : Bool) (n : ℕ) → first (refuse 1 b) (first (refuse 29 b) n) ≡ first (refuse 1 b) n
-      go true n = refl
-      go false n = refl
+      go : (s : Bool) → leb (length f) 65536 ≡ s → (t : Bool) → leb (length f) bytes ≡ t → (n : ℕ)
+          → first (refuse 1 s) (first (refuse 29 t) n) ≡ first (refuse 1 s) n
+      go true p true q n = refl
+      go true p false q n = absurd (x (leb-false _ _ q) (leb-true _ _ p))
+      go false p t q n = refl
 
-  -- "29 when the file .. is beyond the caller's allowance but within the desktop's, at 1's place for bytes"
-  pub tests-beyond : (bytes : ℕ) → bytes < length f → length f ≤ desktop .bytes → fileRefusal f bytes ≡ 29
-  unfolding fileRefusal
-  tests-beyond bytes b h = rw (le-leb (length f) 65536 h, lt-leb (length f) bytes b)
+  -- and another is refused: "29 when the file .. is beyond the caller's allowance but within the desktop's, at 1's place for bytes"
+  pub reading-29 : (a : Allowance) → a .bytes < length f → length f ≤ desktop .bytes → fileReading f a ≡ part nothing (refused 29)
+  unfolding fileReading fileRefusal
+  reading-29 a b h = rw (le-leb (length f) 65536 h, lt-leb (length f) (a .bytes) b)
 
-  pub reading-beyond : (a : Allowance) → a .bytes < length f → length f ≤ desktop .bytes → fileReading f a ≡ part nothing (refused 29)
-  unfolding fileReading
-  reading-beyond a b h = rw (tests-beyond (a .bytes) b h)
-
-  pub reading-cut : (a : Allowance) → fileRefusal f (a .bytes) ≡ free.fileRefusal f → Cut (a .records) (fileReading f a) (free.fileReading f)
+  pub reading-cut : (a : Allowance) → Allowed (a .bytes) → Cut (a .records) (fileReading f a) (free.fileReading f)
   unfolding fileReading free.fileReading
-  reading-cut a e =
-      rw e
+  reading-cut a x =
+      rw (tests-same (a .bytes) x)
       (ways (Cut (a .records)) (eqb (free.fileRefusal f) 0) _ _ _ _
       (λ _. sections-cut f (a .records) (length f) nothing 20 tt (omega arith)) (λ _. whole refl (omega arith)))
