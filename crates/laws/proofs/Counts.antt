@@ -5,7 +5,7 @@ use Prim.Native.Nat.{ℕ, _+_, _≤_, _<_}
 use native.Mathlib.Omega.{arith}
 use mathlib.Core.Path.{_≡_, subst}
 use mathlib.Core.Bool.{cond}
-use mathlib.Core.List.{List}
+use mathlib.Core.List.{List, _∷_}
 use mathlib.Core.Option.{none}
 use lib.Dec.{leb, eqb}
 use lib.ListN.{length}
@@ -18,8 +18,8 @@ use Rattle.format.specs.Allowance.{Allowance}
 use Rattle.format.specs.File.{fileReading}
 use Rattle.format.proofs.Answers.{ok-refused, either, Holds}
 use Rattle.layout.proofs.Ends.{bind-ok}
-use Rattle.laws.proofs.Numbers.{Among, readingNumbers}
-use Rattle.laws.proofs.Endings.{Ends, Left, records-end, map-ends, reading-ends}
+use Rattle.laws.proofs.Numbers.{Among, sectionNumbers, readingNumbers}
+use Rattle.laws.proofs.Endings.{Ends, Left, cut-records-end, map-ends, reading-ends}
 
 -- "Sections follow until fewer than 4 bytes are left; those are ignored."
 pub sections-end : (f : List ℕ) (a : Allowance) (to : ℕ) → fileReading f a .end ≡ ok to → length f < to + 4
@@ -41,7 +41,7 @@ records-end-at-size f base allowed size =
     (λ t e.
     let h = leb-true n (length f) t in
     let x = bind-ok (recordsFrom f base n (length f) allowed 12 .end) (λ _. cond (eqb n 0) (refused 8) (ok n)) size e in
-    record { place = x .0; read = x .1; reaches = subst (Ends (λ to. n ≤ to)) (x .1) (records-end f base n (length f) allowed 12 (omega arith)) })
+    record { place = x .0; read = x .1; reaches = subst (Holds (λ to. n ≤ to) (Among (29 ∷ sectionNumbers))) (x .1) (cut-records-end f base n (length f) allowed 12 (omega arith)) })
     (λ _ e. absurd (ok-refused e)))
     (λ _ e. absurd (ok-refused e))
 

@@ -1,4 +1,5 @@
--- How each reading ends: at a place behind the one where it began, which is where paper 01 says, or by a number of those that refuse it.
+-- How each reading ends without an allowance: at a place behind the one where it began, which is where paper 01 says, or by a number of those that
+-- refuse it; and that under an allowance it ends so or by 29.
 -- Assumes nothing.
 use Prim.Native.Nat.{ℕ, zero, suc, _+_, _-_, _≤_, _<_}
 use native.Mathlib.Omega.{arith}
@@ -13,17 +14,19 @@ use Rattle.format.specs.Bytes.{Answer, ok, refused, Step, has, byte, noZero, u1
 use Rattle.format.specs.Headers as mark
 use Rattle.format.specs.Reading.{Read, Part, andThen, more, inTurn}
 use Rattle.format.specs.Rows.{LineRow}
-use Rattle.format.specs.Irep.{Rec, handler, poolText, symbolText, bytes, bigInteger, poolValue, poolEntry, counted, bodyAt, headAt, recordAt, recordsFrom, irepSection}
+use Rattle.format.specs.Irep.{Rec, handler, poolText, symbolText, bytes, bigInteger, poolValue, poolEntry, counted, bodyAt, headAt, recordsFrom}
 use Rattle.format.specs.Walk.{walk}
 use Rattle.format.specs.Lvar.{plainText, nameEntry, recordNames, Lvar, lvarSection}
 use Rattle.format.specs.Packed.{packedFrom, packed, packedEntry, keeps}
 use Rattle.format.specs.Debug.{above, fileHead, mapEntry, after, goesOn, mapLines, fileLines, filesFrom, debugRecord, Debug, debugContent, debugSection}
 use Rattle.format.specs.Allowance.{Allowance}
-use Rattle.format.specs.File.{Content, nothing, content, isMark, endSection, once, afterIrep, sectionAt, sections, fileRefusal, fileReading}
+use Rattle.format.specs.File.{Content, nothing, content, isMark, endSection, once, afterIrep, sections, fileRefusal, fileReading}
 use Rattle.format.proofs.Answers.{either, Holds, weaker, answered, tested, chained}
 use Rattle.format.proofs.Pool.{value-cases}
-use Rattle.laws.proofs.Numbers.{Among, testNumbers, sectionNumbers, readingNumbers, further}
-use Rattle.laws.proofs.Tests.{tests-among}
+use Rattle.laws.proofs.Unlimited as free
+use Rattle.laws.proofs.Cut.{Cut, whole, beyond, only, records-cut, sections-cut}
+use Rattle.laws.proofs.Numbers.{Among, testNumbers, sectionNumbers, freeNumbers, readingNumbers, further}
+use Rattle.laws.proofs.Tests.{tests-among, free-among}
 
 -- with a value of which P holds, or by a number of sections
 abbrev pub Ends : {A : Type 0} → (A → Type 0) → Answer A → Type 0
@@ -120,39 +123,35 @@ module _ (f : List ℕ) where
       (andThen-ends _ _ (h .end) pool (inTurn-low (handler f) handler-low clen at) (λ next _. counted-low (poolEntry f base) (entry-low base) next))
       (λ next _. counted-low (symbolText f base) (symbol-low base) next)
 
-  record-behind : (base allowed at : ℕ) → Behind at (recordAt f base allowed at .end)
-  unfolding recordAt
-  record-behind base allowed at =
+  record-behind : (base at : ℕ) → Behind at (free.recordAt f base at .end)
+  unfolding free.recordAt
+  record-behind base at =
       let h = headAt f at in
       let body = at + 16 + h .ilen in
-      let P : Part Rec → Type 0 = λ x. Behind at (x .end) in
-      either P (eqb allowed 0) _ _ (λ _. tt)
-      (λ _. either P (has f (at + 16) (h .ilen)) _ _
+      either (λ (x : Part Rec). Behind at (x .end)) (has f (at + 16) (h .ilen)) _ _
       (λ _. chained _ _ _ (bodyAt f base (h .clen) body .end) _ (body-low base (h .clen) body) (λ _ _. not-empty _ (h .size) _ (λ k. omega arith)))
-      (λ _. tt))
+      (λ _. tt)
 
   -- "records, which follow until the place reaches the section size"
-  pub records-end : (base size n allowed at : ℕ) → size ≤ at + n → Ends (λ to. size ≤ to) (recordsFrom f base size n allowed at .end)
-  unfolding recordsFrom
-  records-end base size zero allowed at h = omega arith
-  records-end base size (suc n) allowed at h =
+  pub records-end : (base size n at : ℕ) → size ≤ at + n → Ends (λ to. size ≤ to) (free.recordsFrom f base size n at .end)
+  unfolding free.recordsFrom
+  records-end base size zero at h = omega arith
+  records-end base size (suc n) at h =
       let P : Read Rec → Type 0 = λ x. Ends (λ to. size ≤ to) (x .end) in
       either P (leb size at) _ _ (λ e. leb-true size at e)
       (λ _. either P (has f at 16) _ _
-      (λ _. andThen-ends _ _ (recordAt f base allowed at .end) (recordsFrom f base size n (allowed - 1)) (record-behind base allowed at)
-      (λ next b. records-end base size n (allowed - 1) next (omega arith)))
+      (λ _. andThen-ends _ _ (free.recordAt f base at .end) (free.recordsFrom f base size n) (record-behind base at) (λ next b. records-end base size n next (omega arith)))
       (λ _. tt))
 
-  irep-sized : (base allowed : ℕ) → Sized (irepSection f base allowed .end)
-  unfolding irepSection
-  irep-sized base allowed =
+  irep-sized : (base : ℕ) → Sized (free.irepSection f base .end)
+  unfolding free.irepSection
+  irep-sized base =
       let P : Read Rec → Type 0 = λ x. Sized (x .end) in
       let size = u32At f 4 in
       either P (has f 0 12) _ _
       (λ _. either P (leb size (length f)) _ _
       (λ e. let h = leb-true size (length f) e in
-      chained _ _ _ (recordsFrom f base size (length f) allowed 12 .end) _ (records-end base size (length f) allowed 12 (omega arith))
-      (λ _ _. not-empty _ size _ (λ k. k)))
+      chained _ _ _ (free.recordsFrom f base size (length f) 12 .end) _ (records-end base size (length f) 12 (omega arith)) (λ _ _. not-empty _ size _ (λ k. k)))
       (λ _. tt))
       (λ _. tt)
 
@@ -292,12 +291,12 @@ after-sized none l d k h = tt
 after-sized (some rs) l d k h = h rs
 
 module _ (f : List ℕ) where
-  section-sized : (allowed : ℕ) (c : Content) (at : ℕ) → Sized (sectionAt f allowed c at .end)
-  unfolding sectionAt
-  section-sized allowed c at =
+  section-sized : (c : Content) (at : ℕ) → Sized (free.sectionAt f c at .end)
+  unfolding free.sectionAt
+  section-sized c at =
       let P : Part Content → Type 0 = λ x. Sized (x .end) in
       let s = drop at f in
-      either P (isMark f at mark.irep) _ _ (λ _. once-sized (c .irep) c _ (irep-sized s at allowed))
+      either P (isMark f at mark.irep) _ _ (λ _. once-sized (c .irep) c _ (irep-sized s at))
       (λ _. either P (isMark f at mark.lvar) _ _
       (λ _. after-sized (c .irep) (c .lvar) (c .dbg) _ (λ rs. once-sized (c .lvar) c _ (lvar-sized s at rs)))
       (λ _. either P (isMark f at mark.dbg) _ _
@@ -308,22 +307,48 @@ module _ (f : List ℕ) where
   abbrev pub Left : ℕ → Type 0
   Left to = length f < to + 4
 
-  pub sections-end : (allowed n : ℕ) (c : Content) (at : ℕ) → length f ≤ at + n → Ends Left (sections f allowed n c at .end)
-  unfolding sections
-  sections-end allowed zero c at h = omega arith
-  sections-end allowed (suc n) c at h =
+  pub sections-end : (n : ℕ) (c : Content) (at : ℕ) → length f ≤ at + n → Ends Left (free.sections f n c at .end)
+  unfolding free.sections
+  sections-end zero c at h = omega arith
+  sections-end (suc n) c at h =
       let P : Part Content → Type 0 = λ x. Ends Left (x .end) in
-      let s = sectionAt f allowed c at in
+      let s = free.sectionAt f c at in
       either P (has f at 4) _ _
-      (λ _. answered _ _ P (s .end) _ _ (section-sized allowed c at) (λ size k. sections-end allowed n (s .it) (at + size) (omega arith)) (λ _ r. r))
+      (λ _. answered _ _ P (s .end) _ _ (section-sized c at) (λ size k. sections-end n (s .it) (at + size) (omega arith)) (λ _ r. r))
       (λ e. let k = leb-false 4 (length f - at) e in omega arith)
 
-  pub reading-ends : (a : Allowance) → Holds Left (Among readingNumbers) (fileReading f a .end)
+  pub free-ends : Holds Left (Among freeNumbers) (free.fileReading f .end)
+  unfolding free.fileReading
+  free-ends =
+      let P : Part Content → Type 0 = λ x. Holds Left (Among freeNumbers) (x .end) in
+      let n = free.fileRefusal f in
+      either P (eqb n 0) _ _
+      (λ _. weaker _ _ _ (free.sections f (length f) nothing 20 .end) (sections-end (length f) nothing 20 (omega arith)) (further sectionNumbers freeNumbers tt))
+      (λ z. further testNumbers freeNumbers tt n (free-among f (eqb-false n 0 z)))
+
+-- Under an allowance, by 29 as well
+cut-ends : (P R : ℕ → Type 0) (x : ℕ) (r′ r : Part Content) → Cut x r′ r → Holds P R (r .end) → R 29 → Holds P R (r′ .end)
+cut-ends P R x r′ r (whole e h) k n = rw e k
+cut-ends P R x r′ r (beyond b) k n = rw (b .ends) n
+
+module _ (f : List ℕ) where
+  pub cut-records-end : (base size n allowed at : ℕ) → size ≤ at + n → Holds (λ to. size ≤ to) (Among (29 ∷ sectionNumbers)) (recordsFrom f base size n allowed at .end)
+  cut-records-end base size n allowed at h =
+      let p = free.recordsFrom f base size n at in
+      cut-ends _ _ allowed (only (recordsFrom f base size n allowed at)) (only p) (records-cut f base size n allowed at)
+      (weaker _ _ _ (p .end) (records-end f base size n at h) (further sectionNumbers (29 ∷ sectionNumbers) tt)) tt
+
+  pub cut-sections-end : (allowed : ℕ) → Holds (Left f) (Among (29 ∷ sectionNumbers)) (sections f allowed (length f) nothing 20 .end)
+  cut-sections-end allowed =
+      let p = free.sections f (length f) nothing 20 in
+      cut-ends _ _ allowed (sections f allowed (length f) nothing 20) p (sections-cut f allowed (length f) nothing 20 tt (omega arith))
+      (weaker _ _ _ (p .end) (sections-end f (length f) nothing 20 (omega arith)) (further sectionNumbers (29 ∷ sectionNumbers) tt)) tt
+
+  pub reading-ends : (a : Allowance) → Holds (Left f) (Among readingNumbers) (fileReading f a .end)
   unfolding fileReading
   reading-ends a =
-      let P : Part Content → Type 0 = λ x. Holds Left (Among readingNumbers) (x .end) in
+      let P : Part Content → Type 0 = λ x. Holds (Left f) (Among readingNumbers) (x .end) in
       let n = fileRefusal f (a .bytes) in
-      let p = sections f (a .records) (length f) nothing 20 in
       either P (eqb n 0) _ _
-      (λ _. weaker _ _ _ (p .end) (sections-end (a .records) (length f) nothing 20 (omega arith)) (further sectionNumbers readingNumbers tt))
-      (λ z. further testNumbers readingNumbers tt n (tests-among f (a .bytes) (eqb-false n 0 z)))
+      (λ _. weaker _ _ _ (sections f (a .records) (length f) nothing 20 .end) (cut-sections-end (a .records)) (further (29 ∷ sectionNumbers) readingNumbers tt))
+      (λ z. further (29 ∷ testNumbers) readingNumbers tt n (tests-among f (a .bytes) (eqb-false n 0 z)))

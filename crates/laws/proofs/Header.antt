@@ -1,34 +1,34 @@
 -- Files that are not pattern files: paper 02, g). When a load refuses by 27 and by 28, under an allowance; what a file that loads begins with; and that
 -- nothing else of the header counts.
 -- Assumes nothing.
-use Prim.Native.Nat.{ℕ, zero, suc, _+_, _-_, _/_, _≤_, _<_}
+use Prim.Native.Nat.{ℕ, zero, suc, _+_, _-_, _≤_, _<_}
 use native.Mathlib.Nat.{add-zero}
 use native.Mathlib.Omega.{arith}
 use mathlib.Core.Path.{_≡_, refl, sym, ap, subst, _∙_}
 use mathlib.Core.Logic.{_↔_}
 use mathlib.Core.Bool.{Bool, true, false, not, cond, _&&_}
 use mathlib.Core.List.{List, [], _∷_}
-use lib.Dec.{T, leb, eqb, leb·zero, leb→le, le→leb, nleb→lt, eqb→eq, T-not, not-T}
+use lib.Dec.{T, leb, eqb, leb→le, le→leb, nleb→lt, eqb→eq, T-not, not-T}
 use lib.Ieee.Fits.{and-i, and-l, and-r}
 use lib.ListN.{length, getD, take, drop, length-drop}
 use lib.Seq.{getD-drop, drop-drop}
-use borrow.Author.Tests.{leb-true, leb-false, ne-eqb}
+use borrow.Author.Tests.{ne-eqb}
 use Rattle.format.specs.Bytes.{Answer, ok, refused, oneOf, onAnswer, has, fourAre}
 use Rattle.format.specs.Headers.{riteIdent}
 use Rattle.format.specs.Reading.{Part, part}
-use Rattle.format.specs.Allowance.{Allowance, least, granted}
+use Rattle.format.specs.Allowance.{Allowance, granted}
 use Rattle.format.specs.File.{Content, nothing, sectionAt, sections, identIsRite, statedSize, majorIs04, fileRefusal, fileReading}
 use Rattle.format.specs.Load.{Nine, tablesOf, used, fits, ending, loadingWithin, loading, load}
 use Rattle.format.specs.Exam.{FilePasses}
-use Rattle.format.specs.Rows.{recordWidth}
 use Rattle.format.proofs.Answers.{refused-same, Refuses, answered, tested}
 use Rattle.format.proofs.File.{accepted}
 use Rattle.layout.proofs.Ends.{reading-accepted}
 use Rattle.layout.proofs.Inside.{loading-reading}
 use Rattle.laws.proofs.Numbers.{Among, sectionNumbers, further}
 use Rattle.laws.proofs.Tests.{without, tests-are, number-iff}
-use Rattle.laws.proofs.Endings.{sections-end}
+use Rattle.laws.proofs.Endings.{cut-sections-end}
 use Rattle.laws.proofs.Refusals.{laid-refuses}
+use Rattle.laws.proofs.Allowance.{least-iff, fits-nothing}
 
 -- "the first four bytes are .. ASCII RITE", as the bytes and as the test
 pub rite-iff : (f : List ℕ) → 4 ≤ length f → (take 4 f ≡ riteIdent) ↔ T (identIsRite f)
@@ -46,14 +46,6 @@ rite-iff (a ∷ b ∷ c ∷ d ∷ r) h = (λ e. subst (λ (l : List ℕ). T (fou
         let t3 = and-l (p && q && s) (eqb d 69) t in
         let t2 = and-l (p && q) s t3 in
         rw (eqb→eq a 82 (and-l p q t2), eqb→eq b 73 (and-r p q t2), eqb→eq c 84 (and-r (p && q) s t3), eqb→eq d 69 (and-r (p && q && s) (eqb d 69) t))
-
--- within the lesser of two numbers is within both
-least-iff : (k a b : ℕ) → (k ≤ least a b) ↔ ((k ≤ a) × (k ≤ b))
-least-iff k a b = go (leb a b) refl
-  where
-    go : (t : Bool) → leb a b ≡ t → (k ≤ cond t a b) ↔ ((k ≤ a) × (k ≤ b))
-    go true e = let l = leb-true a b e in (λ h. (h, omega arith), λ x. x .0)
-    go false e = let l = leb-false a b e in (λ h. (omega arith, h), λ x. x .1)
 
 module _ (f : List ℕ) (a : Allowance) where
   abbrev n : ℕ
@@ -159,46 +151,30 @@ module _ (f : List ℕ) (a : Allowance) where
   tests-else x y = sym (rw (ne-eqb refusal 27 x, ne-eqb refusal 28 y) at (tests-are f allowed .else))
 
   module _ (m : Nine) where
-    -- nothing that was read needs no row
-    fits-nothing : fits 1024 m (used (tablesOf nothing)) ≡ true
-    unfolding fits
-    fits-nothing =
-        rw (
-          leb·zero (m .records / recordWidth),
-          leb·zero (m .handlers / 4),
-          leb·zero (m .pool / 3),
-          leb·zero (m .symbols / 2),
-          leb·zero (m .strings / 2),
-          leb·zero (m .names),
-          leb·zero (m .fileNames / 2),
-          leb·zero (m .files / 4),
-          leb·zero (m .lines / 2),
-        )
-
     -- a file that its tests refuse is refused so, whatever is lent
     tested-load : (k : ℕ) → refusal ≡ suc k → load f m a .answer ≡ refused (suc k)
     unfolding load loadingWithin ending fileReading
-    tested-load k e = rw (e, ne-eqb (suc k) 0 (λ (z : suc k ≡ 0). omega arith), fits-nothing)
+    tested-load k e = rw (e, ne-eqb (suc k) 0 (λ (z : suc k ≡ 0). omega arith), fits-nothing m)
 
     -- behind the tests a load is refused by 14 or by a number of sections
-    sections-refuse : refusal ≡ 0 → Refuses (Among (14 ∷ sectionNumbers)) (loading f m a)
+    sections-refuse : refusal ≡ 0 → Refuses (Among (14 ∷ 29 ∷ sectionNumbers)) (loading f m a)
     unfolding loadingWithin ending fileReading
     sections-refuse z =
         let p = sections f (granted a .records) n nothing 20 in
-        let ns : List ℕ = 14 ∷ sectionNumbers in
+        let ns : List ℕ = 14 ∷ 29 ∷ sectionNumbers in
         rw z
         (tested _ _ (fits 1024 m (used (tablesOf (p .it)))) _ 14 tt
-        (λ _. answered _ _ (Refuses (Among ns)) (p .end) _ _ (sections-end f (granted a .records) n nothing 20 (omega arith)) (λ _ _. tt) (further sectionNumbers ns tt)))
+        (λ _. answered _ _ (Refuses (Among ns)) (p .end) _ _ (cut-sections-end f (granted a .records)) (λ _ _. tt) (further (29 ∷ sectionNumbers) ns tt)))
 
     -- so a load's other numbers are the tests'
-    load-tested : (e : ℕ) → T (not (oneOf (14 ∷ sectionNumbers) e)) → load f m a .answer ≡ refused e → refusal ≡ e
+    load-tested : (e : ℕ) → T (not (oneOf (14 ∷ 29 ∷ sectionNumbers) e)) → load f m a .answer ≡ refused e → refusal ≡ e
     unfolding load
     load-tested e t q = by-tests refusal refl
       where
         by-tests : (k : ℕ) → refusal ≡ k → refusal ≡ e
         by-tests zero z =
-            let R : ℕ → Type 0 = Among (14 ∷ sectionNumbers) in
-            absurd (T-not (oneOf (14 ∷ sectionNumbers) e) t (subst (Refuses R) q (laid-refuses m R (loading f m a) (sections-refuse z))))
+            let R : ℕ → Type 0 = Among (14 ∷ 29 ∷ sectionNumbers) in
+            absurd (T-not (oneOf (14 ∷ 29 ∷ sectionNumbers) e) t (subst (Refuses R) q (laid-refuses m R (loading f m a) (sections-refuse z))))
         by-tests (suc k) z = z ∙ refused-same (sym (tested-load k z) ∙ q)
 
     -- "27 when the first four bytes are not ASCII RITE, after 2."

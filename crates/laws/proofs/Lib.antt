@@ -21,4 +21,5 @@ pub mod Unprefixed
 pub mod Unlimited
 pub mod Cut
 pub mod Allowance
+pub mod Beyond
 pub mod Samples

@@ -7,7 +7,7 @@ use native.Mathlib.Omega.{arith}
 use mathlib.Core.Path.{_≡_, refl, sym, subst}
 use mathlib.Core.Logic.{_⊎_, inl, inr}
 use mathlib.Core.Bool.{false, _&&_, _||_, cond}
-use mathlib.Core.List.{List}
+use mathlib.Core.List.{List, _∷_}
 use lib.Dec.{leb, ltb, eqb}
 use lib.ListN.{length, replicate}
 use borrow.Author.Tests.{ne-eqb}
@@ -80,7 +80,7 @@ module _ (f : List ℕ) where
       tested _ _ (fits 1024 m (used (tablesOf (p .it)))) _ 14 tt
       (λ _. answered _ _ (Refuses (Among loadNumbers)) (p .end) _ _ (reading-ends f (granted a)) (λ _ _. tt) (further readingNumbers loadNumbers tt))
 
-  passing-refuses : (c : Content) → Refuses (Among conditionNumbers) (passing f c)
+  pub passing-refuses : (c : Content) → Refuses (Among conditionNumbers) (passing f c)
   unfolding passing
   passing-refuses c = go (examinePattern (patternOf f c)) refl
     where
@@ -97,13 +97,23 @@ module _ (f : List ℕ) where
         chained _ _ _ (loading f m a) (passing f) (weaker _ _ _ (loading f m a) (loading-refuses m a) (further loadNumbers examineNumbers tt))
         (λ c _. weaker _ _ _ (passing f c) (passing-refuses c) (further conditionNumbers examineNumbers tt))
 
+    -- follow, where its load is not refused
+    pub behind-refuses : (c : Content) → loading f m a ≡ ok c → (n : ℕ) (bs : List ℕ) → Refuses (Among (14 ∷ 21 ∷ conditionNumbers)) (following f m a n bs)
+    unfolding following
+    behind-refuses c e n bs =
+        let ns : List ℕ = 14 ∷ 21 ∷ conditionNumbers in
+        rw e
+        (tested _ _ (leb (length (recordsOf c)) (n / 2)) _ 14 tt (λ _.
+        chained _ _ _ (passing f c) _ (weaker _ _ _ (passing f c) (passing-refuses c) (further conditionNumbers ns tt)) (λ _ _.
+        chained _ _ _ (choices bs) _ (weaker _ _ _ (choices bs) (choices-21 bs due-kind) (λ e x. rw x tt)) (λ cs _. tt))))
+
     following-refuses : (n : ℕ) (bs : List ℕ) → Refuses (Among followNumbers) (following f m a n bs)
     unfolding following
-    following-refuses n bs =
-        chained _ _ _ (loading f m a) _ (weaker _ _ _ (loading f m a) (loading-refuses m a) (further loadNumbers followNumbers tt)) (λ c _.
-        tested _ _ (leb (length (recordsOf c)) (n / 2)) _ 14 tt (λ _.
-        chained _ _ _ (passing f c) _ (weaker _ _ _ (passing f c) (passing-refuses c) (further conditionNumbers followNumbers tt)) (λ _ _.
-        chained _ _ _ (choices bs) _ (weaker _ _ _ (choices bs) (choices-21 bs due-kind) (λ e x. rw x tt)) (λ cs _. tt))))
+    following-refuses n bs = by-load (loading f m a) refl
+      where
+        by-load : (x : Answer Content) → loading f m a ≡ x → Refuses (Among followNumbers) (following f m a n bs)
+        by-load (ok c) e = weaker _ _ _ (following f m a n bs) (behind-refuses c e n bs) (further (14 ∷ 21 ∷ conditionNumbers) followNumbers tt)
+        by-load (refused k) e = rw e (further loadNumbers followNumbers tt k (subst (Refuses (Among loadNumbers)) e (loading-refuses m a)))
 
     -- a load
     pub load-number : (e : ℕ) → load f m a .answer ≡ refused e → Among loadNumbers e
