@@ -96,7 +96,8 @@ module _ (f : List ℕ) (bytes : (i : ℕ) → getD f i 0 < 256) (base : ℕ) wh
       either (λ (x : Read Rec). Sums (suc n) (x .rows)) (leb size at) _ _
       (λ _. no-sums (suc n))
       (λ _. either (λ (x : Read Rec). Sums (suc n) (x .rows)) (has f at 16) _ _
-      (λ _. one-more n _ _ (recordAt-small allowed at) (andThen-rows (Sums n) (recordAt f base allowed at .end) (recordsFrom f base size n (allowed - 1)) (no-sums n) (recordsFrom-sums size n (allowed - 1))))
+      (λ _. one-more n _ _ (recordAt-small allowed at)
+      (andThen-rows (Sums n) (recordAt f base allowed at .end) (recordsFrom f base size n (allowed - 1)) (no-sums n) (recordsFrom-sums size n (allowed - 1))))
       (λ _. no-sums (suc n)))
 
   pub irepSection-sums : (allowed : ℕ) → Sums (length f) (irepSection f base allowed .rows)

@@ -230,8 +230,16 @@ module _ (limit : Limits) (m : Nine) where
             rw (run-is, read-is, d)
             (Ran.full (λ q. r (record { within = rm .within; records = rm .records; handlers = q .handlers; pool = q .pool; symbols = q .symbols })) refl)
 
+      -- a record without its lists has a row
       bare-room : Room (limit .most) m (put b (the-rec (body [] [] [])))
-      bare-room = record { within = limit′ (the-rec (body [] [] [])); records = records′ (the-rec (body [] [] [])); handlers = rw append-nil (rm .handlers); pool = rw append-nil (rm .pool); symbols = rw append-nil (rm .symbols) }
+      bare-room =
+          record {
+            within = limit′ (the-rec (body [] [] []));
+            records = records′ (the-rec (body [] [] []));
+            handlers = rw append-nil (rm .handlers);
+            pool = rw append-nil (rm .pool);
+            symbols = rw append-nil (rm .symbols);
+          }
 
       by-code : leb (limit .allowed) (length (b .records)) ≡ false → (c : Bool) → has f (at + 16) (headAt f at .ilen) ≡ c → RecordRan b Q OO
       unfolding recordOf recordAt

@@ -58,15 +58,19 @@ module _ (f : List ℕ) (a : Allowance) (P : Content → Type 0) (keeps : (c : C
   sections-keep : (n : ℕ) (c : Content) (at : ℕ) → P c → Good P (sections f (a .records) n c at)
   unfolding sections
   sections-keep zero c at x to e = x
-  sections-keep (suc n) c at x to e = go (has f at 4) (sectionAt f (a .records) c at .end) refl e (sections-keep n)
+  sections-keep (suc n) c at x to e = go (has f at 4) (s .end) refl e (sections-keep n)
     where
-      go : (b : Bool) (q′ : Answer ℕ) → sectionAt f (a .records) c at .end ≡ q′
-          → cond b (onAnswer q′ (λ size. sections f (a .records) n (sectionAt f (a .records) c at .it) (at + size)) (λ k. part (sectionAt f (a .records) c at .it) (refused k))) (part c (ok at)) .end ≡ ok to
-          → ((c : Content) (at : ℕ) → P c → Good P (sections f (a .records) n c at))
-          → P (cond b (onAnswer q′ (λ size. sections f (a .records) n (sectionAt f (a .records) c at .it) (at + size)) (λ k. part (sectionAt f (a .records) c at .it) (refused k))) (part c (ok at)) .it)
-      go false q′ q e ih = x
-      go true (ok size) q e ih = ih (sectionAt f (a .records) c at .it) (at + size) (keeps c at x size q) to e
-      go true (refused k) q e ih = absurd (ok-refused e)
+      s : Part Content
+      s = sectionAt f (a .records) c at
+
+      on : Answer ℕ → Part Content
+      on q = onAnswer q (λ size. sections f (a .records) n (s .it) (at + size)) (λ k. part (s .it) (refused k))
+
+      go : (b : Bool) (q : Answer ℕ) → s .end ≡ q → cond b (on q) (part c (ok at)) .end ≡ ok to
+          → ((c : Content) (at : ℕ) → P c → Good P (sections f (a .records) n c at)) → P (cond b (on q) (part c (ok at)) .it)
+      go false q h e ih = x
+      go true (ok size) h e ih = ih (s .it) (at + size) (keeps c at x size h) to e
+      go true (refused k) h e ih = absurd (ok-refused e)
 
   pub reading-keeps : P nothing → Good P (fileReading f a)
   unfolding fileReading

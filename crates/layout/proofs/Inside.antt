@@ -208,8 +208,9 @@ module _ (f : List ℕ) (base : ℕ) (all : List ℕ) (part-of : PartOf f base a
       either (GoodRows (Each (RecInside all))) (has f at 16) _ _
       (λ a to e.
       let r = recordAt f base allowed at in
-      let x = andThen-ok (r .end) (recordsFrom f base size m (allowed - 1)) to e in
-      each-more (RecInside all) (r .it) (andThen (r .end) (recordsFrom f base size m (allowed - 1)) .rows) (record-inside allowed at a (x .0) (x .1)) (rw (x .1) (records-from size m (allowed - 1) (x .0) to (x .2))))
+      let k = recordsFrom f base size m (allowed - 1) in
+      let x = andThen-ok (r .end) k to e in
+      each-more (RecInside all) (r .it) (andThen (r .end) k .rows) (record-inside allowed at a (x .0) (x .1)) (rw (x .1) (records-from size m (allowed - 1) (x .0) to (x .2))))
       (λ _ to e. absurd (ok-refused e)))
 
   pub irep-inside : (allowed : ℕ) → GoodRows (Each (RecInside all)) (irepSection f base allowed)

@@ -306,7 +306,8 @@ module _ (limit : Limits) (m : Nine) (f : List ℕ) where
       by-section h ih (Ran.went size e x d) = rw (h, e, d) (ih (sectionAt f (limit .allowed) c at .it) (at + size) (grown .ordered) x)
       by-section h ih (Ran.stop k e x d) = rw (h, e, d) (Ran.stop k refl x refl)
       by-section h ih (Ran.full x d) =
-          rw (h, d) (Ran.full (λ z. x (room-less (limit .most) m (sectionAt f (limit .allowed) c at .it) _ (rest-grows n (sectionAt f (limit .allowed) c at .it) at (grown .ordered) (sectionAt f (limit .allowed) c at .end)) z)) refl)
+          let s = sectionAt f (limit .allowed) c at in
+          rw (h, d) (Ran.full (λ z. x (room-less (limit .most) m (s .it) _ (rest-grows n (s .it) at (grown .ordered) (s .end)) z)) refl)
 
       by-there : (b : Bool) → has f at 4 ≡ b → IH → Goal
       by-there true h ih = by-section h ih (section-ran limit m f at (c .irep) (c .lvar) (c .dbg) o r)

@@ -89,12 +89,14 @@ add-read-body-2 c =
 
 read-body-requires : tie.Need-read-body-requires
 read-body-requires c κs =
-    let start = c .before .before .before .before .before .before .before .before .before .before .before .before .before .before .before .before .before .before .before .before .before .before .before .before .before in
+    let c20 = c .before .before .before .before .before .before .before .before .before .before .before .before .before .before .before .before .before .before .before .before in
+    let start = c20 .before .before .before .before .before in
     start .pre
 
 finish-requires : tie.Need-finish-requires
 finish-requires c κs =
-    let there = c .before .before .before .before .before .before .before .before .before .before .before .before .before .before .before .before .before .before .before .before .before .before .before .before .before .before .before .before .before in
+    let c20 = c .before .before .before .before .before .before .before .before .before .before .before .before .before .before .before .before .before .before .before .before in
+    let there = c20 .before .before .before .before .before .before .before .before .before in
     let bytes = there .before in
     let start = bytes .before .before .before .before .before .before in
     omega (arith, there .if1 .left, bytes .rest .ensures, start .pre)
