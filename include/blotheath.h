@@ -129,7 +129,7 @@ typedef struct {
    numbers of the records that it contains.
 
    How much to lend. A load clears all that it is lent, so lend by the file's length: over fitting tables it loads real files some six times as
-   fast as the Rust that it was ported from, over nine tables of 64 KiB at less than half that Rust's speed. For a file of n bytes:
+   fast as the Rust that it was ported from, over nine tables of 64 KiB more slowly than that Rust. For a file of n bytes:
                  what a compiler writes    records that do not overlap
    records       n / 32 + 1                n / 20, at most 1,024
    handlers      n / 32 + 1                n / 13
