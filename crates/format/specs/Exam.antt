@@ -1,5 +1,5 @@
--- Examination: conditions 15 to 20 of paper 01, 17 widened by paper 02 j), and 25 of b), and the examination that answers the first that is met in the
--- papers' order.
+-- Examination: conditions 15 to 20 of paper 01, 17 widened by paper 02 j), 25 of b) and 32 of n), and the examination that answers the first that is met
+-- in the papers' order. It is for one list q of permitted opcodes.
 -- Assumes nothing.
 use Prim.Native.Nat.{ℕ, zero, suc, _<_}
 use mathlib.Core.Path.{_≡_}
@@ -16,6 +16,7 @@ use Rattle.format.specs.Insn.{Role, reg, pool, sym, child, plain, Flow, 
 use Rattle.format.specs.Registers.{Range, registersAt, Names}
 use Rattle.format.specs.Line.{entry, rising}
 use Rattle.format.specs.Tree.{Whole, whole}
+use Rattle.format.specs.Permitted.{permittedAt}
 use Rattle.format.specs.Pattern.{Record, Pattern, patternOf, ilen, clen, recAt, rlens, begins, lands}
 
 -- The tests at an instruction.
@@ -136,6 +137,12 @@ pub record Bad20 (r : Record) : Type 0 where
   pub given : suc i < length (r .lines)
   pub falls : entry (r .lines) (suc i) .pos < entry (r .lines) i .pos
 
+-- "32 when a record holds an opcode not permitted"
+pub record Bad32 (q : List ℕ) (r : Record) : Type 0 where
+  pub at : ℕ
+  pub starts : T (begins (r .code) at)
+  pub forbidden : T (not (permittedAt q (r .code) at))
+
 -- then of a pattern: one of its records is so
 pub record Some (P : Record → Type 0) (p : Pattern) : Type 0 where
   pub rec : ℕ
@@ -143,25 +150,26 @@ pub record Some (P : Record → Type 0) (p : Pattern) : Type 0 where
   pub holds : P (recAt p rec)
 
 -- condition n is met. "15: the tree is not whole."
-pub data Meets (p : Pattern) : ℕ → Type 0 where
-  meets15 : ¬ Whole (rlens p) → Meets p 15
-  meets16 : Some Bad16 p → Meets p 16
-  meets17 : Some Bad17 p → Meets p 17
-  meets18 : Some Bad18 p → Meets p 18
-  meets19 : Some Bad19 p → Meets p 19
-  meets20 : Some Bad20 p → Meets p 20
-  meets25 : Some Bad25 p → Meets p 25
+pub data Meets (q : List ℕ) (p : Pattern) : ℕ → Type 0 where
+  meets15 : ¬ Whole (rlens p) → Meets q p 15
+  meets16 : Some Bad16 p → Meets q p 16
+  meets17 : Some Bad17 p → Meets q p 17
+  meets18 : Some Bad18 p → Meets q p 18
+  meets19 : Some Bad19 p → Meets q p 19
+  meets20 : Some Bad20 p → Meets q p 20
+  meets25 : Some Bad25 p → Meets q p 25
+  meets32 : Some (Bad32 q) p → Meets q p 32
 
--- a loaded pattern of which "passing then means meeting none of 15 to 20 and 25"
-abbrev pub Passes : Pattern → Type 0
-Passes p = (n : ℕ) → ¬ Meets p n
+-- a loaded pattern of which "passing then means meeting none of 15 to 20, 25 and 32"
+abbrev pub Passes : List ℕ → Pattern → Type 0
+Passes q p = (n : ℕ) → ¬ Meets q p n
 
--- "A file that passes is one that loads in some lent tables and meets none of 15 to 20" and 25; paper 02, h): under an allowance
-pub record FilePasses (f : List ℕ) (a : Allowance) : Type 0 where
+-- "A file that passes is one that loads in some lent tables and meets none of 15 to 20", 25 and 32; paper 02, h) and n): under an allowance and a list
+pub record FilePasses (f : List ℕ) (a : Allowance) (q : List ℕ) : Type 0 where
   pub tables : Nine
   pub content : Content
   pub loads : loading f tables a ≡ ok content
-  pub passes : Passes (patternOf f content)
+  pub passes : Passes q (patternOf f content)
 
 -- Examination. Its answer is a number, 0 where nothing is met.
 
@@ -183,6 +191,13 @@ at16 c o = cond (stray c o) 25 (refuse 16 (readable c o))
 unfoldable pub exam16 : List ℕ → ℕ
 exam16 c = first (refuse 16 (ltb 0 (length c))) (firstAt (at16 c) c 0 0)
 
+-- "32 .. after 16 and 25 over that record, before any 17 there"
+abbrev pub at32 : List ℕ → List ℕ → ℕ → ℕ
+at32 q c o = refuse 32 (permittedAt q c o)
+
+unfoldable pub exam32 : List ℕ → List ℕ → ℕ
+exam32 q c = firstAt (at32 q c) c 0 0
+
 -- "17 before 18 at each instruction in turn"
 abbrev pub at1718 : Record → ℕ → ℕ
 at1718 r o = first (refuse 17 (bounded r o)) (refuse 18 (follows (r .code) o))
@@ -198,25 +213,25 @@ exam19 r = firstOf (λ (t : ℕ). refuse 19 (begins (r .code) t)) (r .handlers)
 unfoldable pub exam20 : Record → ℕ
 exam20 r = refuse 20 (rising (r .lines))
 
-unfoldable pub examineRecord : Record → ℕ
-examineRecord r = first (exam16 (r .code)) (first (exam1718 r) (first (exam19 r) (exam20 r)))
+unfoldable pub examineRecord : List ℕ → Record → ℕ
+examineRecord q r = first (exam16 (r .code)) (first (exam32 q (r .code)) (first (exam1718 r) (first (exam19 r) (exam20 r))))
 
-unfoldable pub examineAll : List Record → ℕ
-examineAll [] = 0
-examineAll (r ∷ rs) = first (examineRecord r) (examineAll rs)
+unfoldable pub examineAll : List ℕ → List Record → ℕ
+examineAll q [] = 0
+examineAll q (r ∷ rs) = first (examineRecord q r) (examineAll q rs)
 
 -- "Examination tests 15 first, then record by record"
-unfoldable pub examinePattern : Pattern → ℕ
-examinePattern p = first (refuse 15 (whole (rlens p))) (examineAll p)
+unfoldable pub examinePattern : List ℕ → Pattern → ℕ
+examinePattern q p = first (refuse 15 (whole (rlens p))) (examineAll q p)
 
 -- what was loaded, where it meets none
-unfoldable pub passing : List ℕ → Content → Answer Content
-passing f c = cond (eqb (examinePattern (patternOf f c)) 0) (ok c) (refused (examinePattern (patternOf f c)))
+unfoldable pub passing : List ℕ → List ℕ → Content → Answer Content
+passing q f c = cond (eqb (examinePattern q (patternOf f c)) 0) (ok c) (refused (examinePattern q (patternOf f c)))
 
 -- "Examination loads the file first."
-unfoldable pub examining : List ℕ → Nine → Allowance → Answer Content
-examining f m a = bind (loading f m a) (passing f)
+unfoldable pub examining : List ℕ → Nine → Allowance → List ℕ → Answer Content
+examining f m a q = bind (loading f m a) (passing q f)
 
 -- what an examination answers, and what the tables hold afterwards: the rows used, as load does
-unfoldable pub examine : List ℕ → Nine → Allowance → Loaded
-examine f m a = laid m (examining f m a)
+unfoldable pub examine : List ℕ → Nine → Allowance → List ℕ → Loaded
+examine f m a q = laid m (examining f m a q)

@@ -18,6 +18,7 @@ pub mod Line
 pub mod Lookup
 pub mod Pattern
 pub mod Tree
+pub mod Permitted
 pub mod Exam
 pub mod Run
 pub mod Claim

@@ -163,11 +163,11 @@ pub record Ran : Type 0 where
 
 -- "Follow loads, tests its frame table, examines, reads the whole choice list for 21, then runs": over a frame table of n words.
 -- "14: .. follow's frame table has fewer rows than the file has records, tested after loading"
-unfoldable pub following : List ℕ → Nine → Allowance → ℕ → List ℕ → Answer Ran
-following f m a n bs =
+unfoldable pub following : List ℕ → Nine → Allowance → List ℕ → ℕ → List ℕ → Answer Ran
+following f m a q n bs =
     bind (loading f m a) (λ c.
     cond (leb (length (recordsOf c)) (n / 2))
-    (bind (passing f c) (λ _. bind (choices bs) (λ cs. ok (record { content = c; frames = run (patternOf f c) cs }))))
+    (bind (passing q f c) (λ _. bind (choices bs) (λ cs. ok (record { content = c; frames = run (patternOf f c) cs }))))
     (refused 14))
 
 -- what follow answers, and what the nine tables and the frame table hold afterwards: after a refusal zeros alone
@@ -176,9 +176,9 @@ pub record Followed : Type 0 where
   pub tables : Words
   pub frames : List ℕ
 
-unfoldable pub follow : List ℕ → Nine → Allowance → ℕ → List ℕ → Followed
-follow f m a n bs =
-    onAnswer (following f m a n bs)
+unfoldable pub follow : List ℕ → Nine → Allowance → List ℕ → ℕ → List ℕ → Followed
+follow f m a q n bs =
+    onAnswer (following f m a q n bs)
     (λ r.
     record {
       answer = ok (standing (patternOf f (r .content)) (r .frames));
