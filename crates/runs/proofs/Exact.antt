@@ -12,7 +12,9 @@ use Rattle.format.specs.Line.{rising}
 use Rattle.format.specs.Tree.{whole}
 use Rattle.format.specs.Pattern.{Record, Pattern, ilen, clen, recAt, blank, begins, rlens}
 use Rattle.format.specs.Bytes.{refuse}
-use Rattle.format.specs.Exam.{stray, readable, bounded, follows, firstAt, at16, at1718, exam16, exam1718, exam19, exam20, examineRecord, examineAll, examinePattern}
+use Rattle.format.specs.Permitted.{permittedAt}
+use Rattle.format.specs.Exam.{stray, readable, bounded, follows, firstAt, at16, at32, at1718, exam16, exam32, exam1718, exam19, exam20}
+use Rattle.format.specs.Exam.{examineRecord, examineAll, examinePattern}
 use Rattle.format.proofs.Answers.{first-zero, refuse-zero}
 use Rattle.runs.proofs.Tests.{firstAt-zero, firstOf-zero}
 
@@ -42,11 +44,11 @@ met-none false false t u = absurd u
 each-16 : (c : List ℕ) → firstAt (at16 c) c 0 0 ≡ 0 → (o : ℕ) → T (begins c o) → T (not (stray c o)) × T (readable c o)
 each-16 c e o t = none-met (stray c o) (readable c o) (each (at16 c) c e o t)
 
-pub good : (r : Record) → examineRecord r ≡ 0 → Good r
+pub good : (q : List ℕ) (r : Record) → examineRecord q r ≡ 0 → Good r
 unfolding examineRecord exam16 exam1718 exam19 exam20
-good r e =
+good q r e =
     let a = first-zero (exam16 (r .code)) _ e in
-    let b = first-zero (exam1718 r) _ (a .1) in
+    let b = first-zero (exam1718 r) _ (first-zero (exam32 q (r .code)) _ (a .1) .1) in
     let c = first-zero (exam19 r) _ (b .1) in
     let d = first-zero (refuse 16 (ltb 0 (ilen r))) _ (a .0) in
     let i = each (at1718 r) (r .code) (b .0) in
@@ -61,18 +63,36 @@ good r e =
       rise = refuse-zero 19 (rising (r .lines)) (c .1);
     }
 
-good-all : (rs : List Record) → examineAll rs ≡ 0 → (i : ℕ) → i < length rs → Good (getD rs i blank)
+-- and the list permits each of its instructions
+abbrev pub Permitting : List ℕ → Record → Type 0
+Permitting q r = (o : ℕ) → T (begins (r .code) o) → T (permittedAt q (r .code) o)
+
+pub permitting : (q : List ℕ) (r : Record) → examineRecord q r ≡ 0 → Permitting q r
+unfolding examineRecord exam32
+permitting q r e o t =
+    let a = first-zero (exam16 (r .code)) _ e in
+    let b = first-zero (exam32 q (r .code)) _ (a .1) in
+    refuse-zero 31 (permittedAt q (r .code) o) (each (at32 q (r .code)) (r .code) (b .0) o t)
+
+pub all-zero : (q : List ℕ) (rs : List Record) → examineAll q rs ≡ 0 → (i : ℕ) → i < length rs → examineRecord q (getD rs i blank) ≡ 0
 unfolding examineAll
-good-all [] e i h = absurd (omega arith)
-good-all (r ∷ rs) e zero h = good r (first-zero (examineRecord r) _ e .0)
-good-all (r ∷ rs) e (suc i) h = good-all rs (first-zero (examineRecord r) _ e .1) i (le-of-suc-le-suc h)
+all-zero q [] e i h = omega arith
+all-zero q (r ∷ rs) e zero h = first-zero (examineRecord q r) (examineAll q rs) e .0
+all-zero q (r ∷ rs) e (suc i) h = all-zero q rs (first-zero (examineRecord q r) (examineAll q rs) e .1) i (le-of-suc-le-suc h)
 
 pub record GoodFile (F : Pattern) : Type 0 where
   pub tree : T (whole (rlens F))
   pub each-rec : (i : ℕ) → i < length F → Good (recAt F i)
 
-pub good-file : (F : Pattern) → examinePattern F ≡ 0 → GoodFile F
+pub good-file : (q : List ℕ) (F : Pattern) → examinePattern q F ≡ 0 → GoodFile F
 unfolding examinePattern
-good-file F e =
+good-file q F e =
     let a = first-zero (refuse 15 (whole (rlens F))) _ e in
-    record { tree = refuse-zero 14 (whole (rlens F)) (a .0); each-rec = good-all F (a .1) }
+    record { tree = refuse-zero 14 (whole (rlens F)) (a .0); each-rec = λ i h. good q (recAt F i) (all-zero q F (a .1) i h) }
+
+abbrev pub PermittingFile : List ℕ → Pattern → Type 0
+PermittingFile q F = (i : ℕ) → i < length F → Permitting q (recAt F i)
+
+pub permitting-file : (q : List ℕ) (F : Pattern) → examinePattern q F ≡ 0 → PermittingFile q F
+unfolding examinePattern
+permitting-file q F e i h = permitting q (recAt F i) (all-zero q F (first-zero (refuse 15 (whole (rlens F))) _ e .1) i h)

@@ -9,6 +9,7 @@ pub mod Begins
 pub mod Exact
 pub mod Safe
 pub mod Refusal
+pub mod Lists
 pub mod Loops
 pub mod Next
 pub mod Jumps

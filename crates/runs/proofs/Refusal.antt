@@ -1,7 +1,7 @@
--- The examination is exact: it answers 0 exactly when none of 15 to 20 and 25 is met, and a number that it answers is that of a condition that is met.
+-- The examination is exact: it answers 0 exactly when none of 15 to 20, 25 and 32 is met, and a number that it answers is that of a condition that is met.
 -- Assumes nothing.
 use Prim.Native.Nat.{ℕ, zero, suc, _<_, suc-le-suc}
-use native.Mathlib.Nat.{le-of-suc-le-suc, zero-add}
+use native.Mathlib.Nat.{zero-add}
 use native.Mathlib.Omega.{arith}
 use mathlib.Core.Path.{_≡_, refl, sym, subst}
 use mathlib.Core.Logic.{_⊎_, inl, inr, _↔_}
@@ -14,17 +14,19 @@ use Rattle.format.specs.Insn.{Flow, on, ends, jumps, may, flow, rowAt, next}
 use Rattle.format.specs.Line.{entry, rising}
 use Rattle.format.specs.Tree.{Whole, whole}
 use Rattle.format.specs.Pattern.{Record, Pattern, ilen, recAt, blank, begins, lands, rlens}
-use Rattle.format.specs.Exam.{leads, hasNext, hasTarget, stray, readable, bounded, follows, Bad16, Bad17, Bad18, Bad19, Bad20, Bad25, Some}
+use Rattle.format.specs.Exam.{leads, hasNext, hasTarget, stray, readable, bounded, follows}
+use Rattle.format.specs.Exam.{Bad16, Bad17, Bad18, Bad19, Bad20, Bad25, Bad32, Some}
 use Rattle.format.specs.Bytes.{refuse, first}
-use Rattle.format.specs.Exam.{Meets, meets15, meets16, meets17, meets18, meets19, meets20, meets25, Passes, firstAt, at16, at1718, exam16, exam1718}
-use Rattle.format.specs.Exam.{exam19, exam20, examineRecord, examineAll, examinePattern}
+use Rattle.format.specs.Permitted.{permittedAt}
+use Rattle.format.specs.Exam.{Meets, meets15, meets16, meets17, meets18, meets19, meets20, meets25, meets32, Passes, firstAt, at16, at32, at1718}
+use Rattle.format.specs.Exam.{exam16, exam32, exam1718, exam19, exam20, examineRecord, examineAll, examinePattern}
 use Rattle.runs.proofs.Registers.{none-high, some-high}
 use Rattle.format.proofs.Table.{both}
 use Rattle.format.proofs.Answers.{first-zero, zero-first, refuse-zero, refuse-pass, first-hit, refuse-hit}
 use Rattle.runs.proofs.Tests.{Hit, firstAt-hit, firstOf-hit}
 use Rattle.runs.proofs.Tree.{whole-iff}
 use Rattle.runs.proofs.Line.{mono}
-use Rattle.runs.proofs.Exact.{GoodFile, good-file}
+use Rattle.runs.proofs.Exact.{GoodFile, good-file, PermittingFile, permitting-file, all-zero}
 
 -- The test of 18 against its words.
 
@@ -56,38 +58,42 @@ module _ (c : List ℕ) (o : ℕ) where
 
 -- From 0: none is met.
 
-no-meet : (F : Pattern) → GoodFile F → (n : ℕ) → Meets F n → ⊥
-no-meet F G n (meets15 w) = w (whole-iff (rlens F) .0 (G .tree))
-no-meet F G n (meets16 s) = go (s .holds)
+no-meet : (q : List ℕ) (F : Pattern) → GoodFile F → PermittingFile q F → (n : ℕ) → Meets q F n → ⊥
+no-meet q F G A n (meets15 w) = w (whole-iff (rlens F) .0 (G .tree))
+no-meet q F G A n (meets16 s) = go (s .holds)
   where
     go : Bad16 (recAt F (s .rec)) → ⊥
     go (inl e) = omega (arith, G .each-rec (s .rec) (s .inside) .filled)
     go (inr b) = T-not (readable (recAt F (s .rec) .code) (b .at)) (b .fails) (G .each-rec (s .rec) (s .inside) .reads (b .at) (b .starts))
-no-meet F G n (meets17 s) =
+no-meet q F G A n (meets17 s) =
     let b = s .holds in
     none-high (recAt F (s .rec)) (b .at) (G .each-rec (s .rec) (s .inside) .fit (b .at) (b .starts)) (b .high)
-no-meet F G n (meets18 s) = not-lost (recAt F (s .rec) .code) (s .holds .at) (G .each-rec (s .rec) (s .inside) .go (s .holds .at) (s .holds .starts)) (s .holds .lost)
-no-meet F G n (meets19 s) =
+no-meet q F G A n (meets18 s) = not-lost (recAt F (s .rec) .code) (s .holds .at) (G .each-rec (s .rec) (s .inside) .go (s .holds .at) (s .holds .starts)) (s .holds .lost)
+no-meet q F G A n (meets19 s) =
     T-not (begins (recAt F (s .rec) .code) (getD (recAt F (s .rec) .handlers) (s .holds .h) 0)) (s .holds .none-begins) (G .each-rec (s .rec) (s .inside) .caught (s .holds .h) (s .holds .given))
-no-meet F G n (meets20 s) =
+no-meet q F G A n (meets20 s) =
     let b = s .holds in
     omega (arith, b .falls, mono (recAt F (s .rec) .lines) (G .each-rec (s .rec) (s .inside) .rise) (b .i) (suc (b .i)) (omega arith) (b .given))
-no-meet F G n (meets25 s) =
+no-meet q F G A n (meets25 s) =
     let b = s .holds in
     T-not (stray (recAt F (s .rec) .code) (b .at)) (G .each-rec (s .rec) (s .inside) .paired (b .at) (b .starts)) (b .alone)
+no-meet q F G A n (meets32 s) =
+    let b = s .holds in
+    T-not (permittedAt q (recAt F (s .rec) .code) (b .at)) (b .forbidden) (A (s .rec) (s .inside) (b .at) (b .starts))
 
-pub pass-sound : (F : Pattern) → examinePattern F ≡ 0 → Passes F
-pass-sound F e n = no-meet F (good-file F e) n
+pub pass-sound : (q : List ℕ) (F : Pattern) → examinePattern q F ≡ 0 → Passes q F
+pass-sound q F e n = no-meet q F (good-file q F e) (permitting-file q F e) n
 
 -- From a number: that condition is met.
 
-data Bad (r : Record) : ℕ → Type 0 where
-  bad16 : Bad16 r → Bad r 16
-  bad17 : Bad17 r → Bad r 17
-  bad18 : Bad18 r → Bad r 18
-  bad19 : Bad19 r → Bad r 19
-  bad20 : Bad20 r → Bad r 20
-  bad25 : Bad25 r → Bad r 25
+data Bad (q : List ℕ) (r : Record) : ℕ → Type 0 where
+  bad16 : Bad16 r → Bad q r 16
+  bad17 : Bad17 r → Bad q r 17
+  bad18 : Bad18 r → Bad q r 18
+  bad19 : Bad19 r → Bad q r 19
+  bad20 : Bad20 r → Bad q r 20
+  bad25 : Bad25 r → Bad q r 25
+  bad32 : Bad32 q r → Bad q r 32
 
 -- a map that does not rise falls somewhere
 falls-at : (m : List LineRow) → T (not (rising m)) → (i : ℕ) × (suc i < length m) × (entry m (suc i) .pos < entry m i .pos)
@@ -102,21 +108,21 @@ falls-at (e ∷ f ∷ m) t = go (leb (e .pos) (f .pos)) refl t (falls-at (f ∷ 
     go true q t ih = let w = ih t in (suc (w .0), suc-le-suc (w .1), w .2)
     go false q t ih = (0, omega arith, nleb→lt _ _ (subst (λ (b : Bool). T (not b)) (sym q) tt))
 
-module _ (r : Record) (n : ℕ) where
-  same : {k : ℕ} → k ≡ suc n → Bad r k → Bad r (suc n)
-  same e b = subst (λ (k : ℕ). Bad r k) e b
+module _ (q : List ℕ) (r : Record) (n : ℕ) where
+  same : {k : ℕ} → k ≡ suc n → Bad q r k → Bad q r (suc n)
+  same e b = subst (λ (k : ℕ). Bad q r k) e b
 
-  hit16 : exam16 (r .code) ≡ suc n → Bad r (suc n)
+  hit16 : exam16 (r .code) ≡ suc n → Bad q r (suc n)
   unfolding exam16
   hit16 e = go (first-hit (refuse 16 (ltb 0 (ilen r))) _ n e)
     where
-      which : (o : ℕ) → T (begins (r .code) o) → (s : Bool) → stray (r .code) o ≡ s → cond s 25 (refuse 16 (readable (r .code) o)) ≡ suc n → Bad r (suc n)
-      which o t true q e = same e (bad25 (record { at = o; starts = t; alone = subst T (sym q) tt }))
-      which o t false q e =
+      which : (o : ℕ) → T (begins (r .code) o) → (s : Bool) → stray (r .code) o ≡ s → cond s 25 (refuse 16 (readable (r .code) o)) ≡ suc n → Bad q r (suc n)
+      which o t true p e = same e (bad25 (record { at = o; starts = t; alone = subst T (sym p) tt }))
+      which o t false p e =
           let h = refuse-hit 16 n (readable (r .code) o) e in
-          same (h .0) (bad16 (inr (record { at = o; starts = t; paired = subst (λ (b : Bool). T (not b)) (sym q) tt; fails = h .1 })))
+          same (h .0) (bad16 (inr (record { at = o; starts = t; paired = subst (λ (b : Bool). T (not b)) (sym p) tt; fails = h .1 })))
 
-      go : (refuse 16 (ltb 0 (ilen r)) ≡ suc n) ⊎ (firstAt (at16 (r .code)) (r .code) 0 0 ≡ suc n) → Bad r (suc n)
+      go : (refuse 16 (ltb 0 (ilen r)) ≡ suc n) ⊎ (firstAt (at16 (r .code)) (r .code) 0 0 ≡ suc n) → Bad q r (suc n)
       go (inl e) =
           let h = refuse-hit 16 n (ltb 0 (ilen r)) e in
           same (h .0) (bad16 (inl (omega (arith, nltb→le 0 (ilen r) (h .1)))))
@@ -124,101 +130,107 @@ module _ (r : Record) (n : ℕ) where
           let i = firstAt-hit (at16 (r .code)) (r .code) 0 0 n e in
           which (i .at) (i .starts) (stray (r .code) (i .at)) refl (rw zero-add at (i .gives))
 
-  hit1718 : exam1718 r ≡ suc n → Bad r (suc n)
+  hit32 : exam32 q (r .code) ≡ suc n → Bad q r (suc n)
+  unfolding exam32
+  hit32 e =
+      let i = firstAt-hit (at32 q (r .code)) (r .code) 0 0 n e in
+      let h = refuse-hit 32 n (permittedAt q (r .code) (i .at)) (rw zero-add at (i .gives)) in
+      same (h .0) (bad32 (record { at = i .at; starts = i .starts; forbidden = h .1 }))
+
+  hit1718 : exam1718 r ≡ suc n → Bad q r (suc n)
   unfolding exam1718
   hit1718 e = at (firstAt-hit (at1718 r) (r .code) 0 0 n e)
     where
-      go : (o : ℕ) → T (begins (r .code) o) → (refuse 17 (bounded r o) ≡ suc n) ⊎ (refuse 18 (follows (r .code) o) ≡ suc n) → Bad r (suc n)
+      go : (o : ℕ) → T (begins (r .code) o) → (refuse 17 (bounded r o) ≡ suc n) ⊎ (refuse 18 (follows (r .code) o) ≡ suc n) → Bad q r (suc n)
       go o t (inl e) = let h = refuse-hit 17 n (bounded r o) e in same (h .0) (bad17 (record { at = o; starts = t; high = some-high r o (h .1) }))
       go o t (inr e) = let h = refuse-hit 18 n (follows (r .code) o) e in same (h .0) (bad18 (record { at = o; starts = t; lost = lost-of (r .code) o (h .1) }))
 
-      at : Hit (at1718 r) (r .code) 0 0 (suc n) → Bad r (suc n)
+      at : Hit (at1718 r) (r .code) 0 0 (suc n) → Bad q r (suc n)
       at i = go (i .at) (i .starts) (first-hit (refuse 17 (bounded r (i .at))) (refuse 18 (follows (r .code) (i .at))) n (rw zero-add at (i .gives)))
 
-  hit19 : exam19 r ≡ suc n → Bad r (suc n)
+  hit19 : exam19 r ≡ suc n → Bad q r (suc n)
   unfolding exam19
   hit19 e =
       let i = firstOf-hit (λ (t : ℕ). refuse 19 (begins (r .code) t)) (r .handlers) n e in
       let h = refuse-hit 19 n (begins (r .code) (getD (r .handlers) (i .at) 0)) (i .gives) in
       same (h .0) (bad19 (record { h = i .at; given = i .inside; none-begins = h .1 }))
 
-  hit20 : exam20 r ≡ suc n → Bad r (suc n)
+  hit20 : exam20 r ≡ suc n → Bad q r (suc n)
   unfolding exam20
   hit20 e =
       let h = refuse-hit 20 n (rising (r .lines)) e in
       let w = falls-at (r .lines) (h .1) in
       same (h .0) (bad20 (record { i = w .0; given = w .1; falls = w .2 }))
 
-  hit-rec : examineRecord r ≡ suc n → Bad r (suc n)
+  hit-rec : examineRecord q r ≡ suc n → Bad q r (suc n)
   unfolding examineRecord
-  hit-rec e = a (first-hit (exam16 (r .code)) (first (exam1718 r) (first (exam19 r) (exam20 r))) n e)
+  hit-rec e = a (first-hit (exam16 (r .code)) (first (exam32 q (r .code)) (first (exam1718 r) (first (exam19 r) (exam20 r)))) n e)
     where
-      c : (exam19 r ≡ suc n) ⊎ (exam20 r ≡ suc n) → Bad r (suc n)
-      c (inl e) = hit19 e
-      c (inr e) = hit20 e
+      d : (exam19 r ≡ suc n) ⊎ (exam20 r ≡ suc n) → Bad q r (suc n)
+      d (inl e) = hit19 e
+      d (inr e) = hit20 e
 
-      b : (exam1718 r ≡ suc n) ⊎ (first (exam19 r) (exam20 r) ≡ suc n) → Bad r (suc n)
-      b (inl e) = hit1718 e
-      b (inr e) = c (first-hit (exam19 r) (exam20 r) n e)
+      c : (exam1718 r ≡ suc n) ⊎ (first (exam19 r) (exam20 r) ≡ suc n) → Bad q r (suc n)
+      c (inl e) = hit1718 e
+      c (inr e) = d (first-hit (exam19 r) (exam20 r) n e)
 
-      a : (exam16 (r .code) ≡ suc n) ⊎ (first (exam1718 r) (first (exam19 r) (exam20 r)) ≡ suc n) → Bad r (suc n)
+      b : (exam32 q (r .code) ≡ suc n) ⊎ (first (exam1718 r) (first (exam19 r) (exam20 r)) ≡ suc n) → Bad q r (suc n)
+      b (inl e) = hit32 e
+      b (inr e) = c (first-hit (exam1718 r) (first (exam19 r) (exam20 r)) n e)
+
+      a : (exam16 (r .code) ≡ suc n) ⊎ (first (exam32 q (r .code)) (first (exam1718 r) (first (exam19 r) (exam20 r))) ≡ suc n) → Bad q r (suc n)
       a (inl e) = hit16 e
-      a (inr e) = b (first-hit (exam1718 r) (first (exam19 r) (exam20 r)) n e)
+      a (inr e) = b (first-hit (exam32 q (r .code)) (first (exam1718 r) (first (exam19 r) (exam20 r))) n e)
 
-hit-all : (rs : List Record) (n : ℕ) → examineAll rs ≡ suc n → Some (λ (r : Record). Bad r (suc n)) rs
+hit-all : (q : List ℕ) (rs : List Record) (n : ℕ) → examineAll q rs ≡ suc n → Some (λ (r : Record). Bad q r (suc n)) rs
 unfolding examineAll
-hit-all [] n e = absurd (omega arith)
-hit-all (r ∷ rs) n e = go (first-hit (examineRecord r) (examineAll rs) n e) (hit-all rs n)
+hit-all q [] n e = absurd (omega arith)
+hit-all q (r ∷ rs) n e = go (first-hit (examineRecord q r) (examineAll q rs) n e) (hit-all q rs n)
   where
-    go : (examineRecord r ≡ suc n) ⊎ (examineAll rs ≡ suc n) → (examineAll rs ≡ suc n → Some (λ (r : Record). Bad r (suc n)) rs) → Some (λ (r : Record). Bad r (suc n)) (r ∷ rs)
-    go (inl e) ih = record { rec = 0; inside = omega arith; holds = hit-rec r n e }
+    go : (examineRecord q r ≡ suc n) ⊎ (examineAll q rs ≡ suc n) → (examineAll q rs ≡ suc n → Some (λ (r : Record). Bad q r (suc n)) rs) → Some (λ (r : Record). Bad q r (suc n)) (r ∷ rs)
+    go (inl e) ih = record { rec = 0; inside = omega arith; holds = hit-rec q r n e }
     go (inr e) ih = let w = ih e in record { rec = suc (w .rec); inside = suc-le-suc (w .inside); holds = w .holds }
 
-some-meets : (F : Pattern) (i n : ℕ) → i < length F → Bad (recAt F i) n → Meets F n
-some-meets F i n h (bad16 b) = meets16 (record { rec = i; inside = h; holds = b })
-some-meets F i n h (bad17 b) = meets17 (record { rec = i; inside = h; holds = b })
-some-meets F i n h (bad18 b) = meets18 (record { rec = i; inside = h; holds = b })
-some-meets F i n h (bad19 b) = meets19 (record { rec = i; inside = h; holds = b })
-some-meets F i n h (bad20 b) = meets20 (record { rec = i; inside = h; holds = b })
-some-meets F i n h (bad25 b) = meets25 (record { rec = i; inside = h; holds = b })
+some-meets : (q : List ℕ) (F : Pattern) (i n : ℕ) → i < length F → Bad q (recAt F i) n → Meets q F n
+some-meets q F i n h (bad16 b) = meets16 (record { rec = i; inside = h; holds = b })
+some-meets q F i n h (bad17 b) = meets17 (record { rec = i; inside = h; holds = b })
+some-meets q F i n h (bad18 b) = meets18 (record { rec = i; inside = h; holds = b })
+some-meets q F i n h (bad19 b) = meets19 (record { rec = i; inside = h; holds = b })
+some-meets q F i n h (bad20 b) = meets20 (record { rec = i; inside = h; holds = b })
+some-meets q F i n h (bad25 b) = meets25 (record { rec = i; inside = h; holds = b })
+some-meets q F i n h (bad32 b) = meets32 (record { rec = i; inside = h; holds = b })
 
-pub refusal-met : (F : Pattern) (n : ℕ) → examinePattern F ≡ suc n → Meets F (suc n)
+pub refusal-met : (q : List ℕ) (F : Pattern) (n : ℕ) → examinePattern q F ≡ suc n → Meets q F (suc n)
 unfolding examinePattern
-refusal-met F n e = go (first-hit (refuse 15 (whole (rlens F))) (examineAll F) n e)
+refusal-met q F n e = go (first-hit (refuse 15 (whole (rlens F))) (examineAll q F) n e)
   where
-    go : (refuse 15 (whole (rlens F)) ≡ suc n) ⊎ (examineAll F ≡ suc n) → Meets F (suc n)
+    go : (refuse 15 (whole (rlens F)) ≡ suc n) ⊎ (examineAll q F ≡ suc n) → Meets q F (suc n)
     go (inl e) =
         let h = refuse-hit 15 n (whole (rlens F)) e in
-        subst (λ (k : ℕ). Meets F k) (h .0) (meets15 (λ w. T-not (whole (rlens F)) (h .1) (whole-iff (rlens F) .1 w)))
-    go (inr e) = let w = hit-all F n e in some-meets F (w .rec) (suc n) (w .inside) (w .holds)
+        subst (λ (k : ℕ). Meets q F k) (h .0) (meets15 (λ w. T-not (whole (rlens F)) (h .1) (whole-iff (rlens F) .1 w)))
+    go (inr e) = let w = hit-all q F n e in some-meets q F (w .rec) (suc n) (w .inside) (w .holds)
 
-pub passes-iff : (F : Pattern) → (examinePattern F ≡ 0) ↔ Passes F
-passes-iff F = (pass-sound F, λ p. go p (examinePattern F) refl)
+pub passes-iff : (q : List ℕ) (F : Pattern) → (examinePattern q F ≡ 0) ↔ Passes q F
+passes-iff q F = (pass-sound q F, λ p. go p (examinePattern q F) refl)
   where
-    go : Passes F → (k : ℕ) → examinePattern F ≡ k → examinePattern F ≡ 0
+    go : Passes q F → (k : ℕ) → examinePattern q F ≡ k → examinePattern q F ≡ 0
     go p zero e = e
-    go p (suc k) e = absurd (p (suc k) (refusal-met F k e))
+    go p (suc k) e = absurd (p (suc k) (refusal-met q F k e))
 
-all-zero : (rs : List Record) → examineAll rs ≡ 0 → (i : ℕ) → i < length rs → examineRecord (getD rs i blank) ≡ 0
+zero-all : (q : List ℕ) (rs : List Record) → ((i : ℕ) → i < length rs → examineRecord q (getD rs i blank) ≡ 0) → examineAll q rs ≡ 0
 unfolding examineAll
-all-zero [] e i h = omega arith
-all-zero (r ∷ rs) e zero h = first-zero (examineRecord r) (examineAll rs) e .0
-all-zero (r ∷ rs) e (suc i) h = all-zero rs (first-zero (examineRecord r) (examineAll rs) e .1) i (le-of-suc-le-suc h)
-
-zero-all : (rs : List Record) → ((i : ℕ) → i < length rs → examineRecord (getD rs i blank) ≡ 0) → examineAll rs ≡ 0
-unfolding examineAll
-zero-all [] z = refl
-zero-all (r ∷ rs) z = zero-first (examineRecord r) (examineAll rs) (z 0 (omega arith)) (zero-all rs (λ i h. z (suc i) (suc-le-suc h)))
+zero-all q [] z = refl
+zero-all q (r ∷ rs) z = zero-first (examineRecord q r) (examineAll q rs) (z 0 (omega arith)) (zero-all q rs (λ i h. z (suc i) (suc-le-suc h)))
 
 -- The file passes exactly when its tree is whole and each record passes by itself.
-pub by-record : (F : Pattern) → (examinePattern F ≡ 0) ↔ (Whole (rlens F) × ((i : ℕ) → i < length F → examineRecord (recAt F i) ≡ 0))
+pub by-record : (q : List ℕ) (F : Pattern) → (examinePattern q F ≡ 0) ↔ (Whole (rlens F) × ((i : ℕ) → i < length F → examineRecord q (recAt F i) ≡ 0))
 unfolding examinePattern
-by-record F = (there, back)
+by-record q F = (there, back)
   where
-    there : examinePattern F ≡ 0 → Whole (rlens F) × ((i : ℕ) → i < length F → examineRecord (recAt F i) ≡ 0)
+    there : examinePattern q F ≡ 0 → Whole (rlens F) × ((i : ℕ) → i < length F → examineRecord q (recAt F i) ≡ 0)
     there e =
-        let a = first-zero (refuse 15 (whole (rlens F))) (examineAll F) e in
-        (whole-iff (rlens F) .0 (refuse-zero 14 (whole (rlens F)) (a .0)), all-zero F (a .1))
+        let a = first-zero (refuse 15 (whole (rlens F))) (examineAll q F) e in
+        (whole-iff (rlens F) .0 (refuse-zero 14 (whole (rlens F)) (a .0)), all-zero q F (a .1))
 
-    back : Whole (rlens F) × ((i : ℕ) → i < length F → examineRecord (recAt F i) ≡ 0) → examinePattern F ≡ 0
-    back p = zero-first (refuse 15 (whole (rlens F))) (examineAll F) (refuse-pass 15 (whole (rlens F)) (whole-iff (rlens F) .1 (p .0))) (zero-all F (p .1))
+    back : Whole (rlens F) × ((i : ℕ) → i < length F → examineRecord q (recAt F i) ≡ 0) → examinePattern q F ≡ 0
+    back p = zero-first (refuse 15 (whole (rlens F))) (examineAll q F) (refuse-pass 15 (whole (rlens F)) (whole-iff (rlens F) .1 (p .0))) (zero-all q F (p .1))
