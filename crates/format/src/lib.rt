@@ -1,4 +1,4 @@
-// The definitions of the format stand in specs/, the laws that proofs of code cite in proofs/. The code is four numbers.
+// The definitions of the format stand in specs/, the laws that proofs of code cite in proofs/. The code is five numbers.
 
 // How many words a record's row has.
 pub const RECORD_WIDTH: usize = 21;
@@ -10,3 +10,6 @@ pub const NO_PARENT: u32 = 65535;
 pub const DESKTOP_BYTES: u32 = 65536;
 
 pub const DESKTOP_RECORDS: u32 = 1024;
+
+// How many opcodes there are, and so how many bytes of a list of permitted ones are read.
+pub const OPCODES: usize = 119;

@@ -11,7 +11,7 @@ use lib.ListN.{length, getD, drop}
 use Rattle.format.specs.Bytes.{byte, refuse, first}
 use Rattle.format.specs.Insn.{rest, next}
 use Rattle.format.specs.Pattern.{Record, begins}
-use Rattle.format.specs.Exam.{firstAt, at16, at1718, exam16, exam1718}
+use Rattle.format.specs.Exam.{firstAt, at16, at1718, exam16, exam32, exam1718}
 use Rattle.format.proofs.Answers.{first-zero}
 use Rattle.runs.proofs.Tests.{firstAt-zero}
 use Rattle.flags.specs.Flags.{Entire, bare, flagAt, judged, Flagged, landsFrom}
@@ -125,17 +125,20 @@ module _ {l c flags : List ℕ} (f : Flagged l c flags) {i : ℕ} (h : i < lengt
       unfolding judged
       going-land z = let b = begun (omega arith) in going-pass h g b (answer-is b ∙ rw (q, ← j, z))
 
--- 16, then 17 and 18
-module _ {l c flags : List ℕ} {a : ℕ} (m : Marks l c flags a) where
-  pub coded-16 : (a ≡ 0 → ⊥) → Coded l c flags a
-  coded-16 z = record { answers = rw (← m .answers) (first-some a (exam1718 (bare l c)) z); marked = λ e. absurd (z e) }
+-- 16, 25 and 32, then 17 and 18
+module _ {l q c flags : List ℕ} {a : ℕ} (m : Marks l q c flags a) where
+  pub coded-marks : (a ≡ 0 → ⊥) → Coded l q c flags a
+  coded-marks z = record { answers = rw (← m .answers) (first-some a (exam1718 (bare l c)) z); marked = λ e. absurd (z e) }
 
   module _ (z : a ≡ 0) where
+    none-met : first (exam16 c) (exam32 q c) ≡ 0
+    none-met = sym (m .answers) ∙ z
+
     pub passes : exam16 c ≡ 0
-    passes = sym (m .answers) ∙ z
+    passes = first-zero (exam16 c) (exam32 q c) none-met .0
 
-    pub coded-stop : {n : ℕ} → exam1718 (bare l c) ≡ suc n → Coded l c flags (suc n)
-    coded-stop e = record { answers = rw (passes, e); marked = λ y. absurd (omega arith) }
+    pub coded-stop : {n : ℕ} → exam1718 (bare l c) ≡ suc n → Coded l q c flags (suc n)
+    coded-stop e = record { answers = rw (none-met, e); marked = λ y. absurd (omega arith) }
 
-    pub coded-end : exam1718 (bare l c) ≡ 0 → Coded l c flags 0
-    coded-end e = record { answers = rw (passes, e); marked = λ y. flags-mark (m .flagged z) }
+    pub coded-end : exam1718 (bare l c) ≡ 0 → Coded l q c flags 0
+    coded-end e = record { answers = rw (none-met, e); marked = λ y. flags-mark (m .flagged z) }

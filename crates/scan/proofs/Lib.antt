@@ -1,4 +1,5 @@
 pub mod First
+mod Listed
 mod Places
 mod Marks
 mod Going

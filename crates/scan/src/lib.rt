@@ -1,4 +1,6 @@
-// Conditions 16, 25, 17 and 18 over the code of a record, with a flag for each byte.
+// Conditions 16, 25, 32, 17 and 18 over the code of a record, with a flag for each byte.
+use examine_list::both;
+use examine_list::yes;
 use flags::HIGH;
 use flags::TARGETED;
 use flags::flag_at;
@@ -7,9 +9,16 @@ use flags::next_offset;
 use flags::test_behind;
 use opcode::digits;
 use opcode::parts::SIZE;
-ghost use Prim.Native.Nat.{_≤_};
+ghost use mathlib.Core.Bool.{true, false, _&&_};
+ghost use mathlib.Core.Path.{_≡_};
+ghost use Prim.Native.Nat.{_+_, _≤_, _<_};
+ghost use lib.Dec.{ltb};
 ghost use lib.ListN.{length};
+ghost use Rattle.format.specs.Bytes.{byte};
+ghost use Rattle.format.specs.Insn.{prefix};
+ghost use Rattle.format.specs.Permitted.{permittedAt};
 ghost use Rattle.flags.specs.Flags.{Limits};
+ghost use Rattle.examine_list.specs.Full.{said, Full};
 ghost use Rattle.scan.specs.Scan.{Cleared, Marks, Coded};
 
 // The first `n` flags become 0.
@@ -24,16 +33,38 @@ fn clear(flags: &mut [u8], n: usize)
     }
 }
 
-// 16 and 25 over the whole record, and the flag of each instruction: 0 where it passes.
-fn exam_16(code: &[u8], flags: &mut [u8], limits: &[u32]) -> u8
+// An answer about the instructions before `i`, with the one there, which has no prefix: yes where a list in full permits them all.
+fn with_alone(all: u8, code: &[u8], i: usize, permitted: &[u8]) -> u8
+    requires { ⌜ Full (now permitted) ⌝ }
+    requires { ⌜ (all ≤ 1) × (i < length (now code)) × (prefix (byte (now code) i) ≡ false) ⌝ }
+    ensures { λ r. ⌜ r ≡ said (ltb 0 all && permittedAt (now (permitted .entry)) (now (code .entry)) i) ⌝ }
+{
+    both(all, yes(permitted, code[i]))
+}
+
+// The same where it has one: a prefix needs its own yes.
+fn with_prefixed(all: u8, code: &[u8], i: usize, permitted: &[u8]) -> u8
+    requires { ⌜ Full (now permitted) ⌝ }
+    requires { ⌜ (all ≤ 1) × (i + 1 < length (now code)) × (prefix (byte (now code) i) ≡ true) ⌝ }
+    ensures { λ r. ⌜ r ≡ said (ltb 0 all && permittedAt (now (permitted .entry)) (now (code .entry)) i) ⌝ }
+{
+    let pair = both(yes(permitted, code[i]), yes(permitted, code[i + 1]));
+    both(all, pair)
+}
+
+// 16 and 25 over the whole record, then 32 by a list in full, and the flag of each instruction: 0 where it passes.
+fn exam_16(code: &[u8], flags: &mut [u8], limits: &[u32], permitted: &[u8]) -> u8
     requires { ⌜ length (now code) ≤ length (now flags) ⌝ }
     requires { ⌜ Limits (now limits) ⌝ }
-    ensures { λ r. ⌜ Marks (now (limits .entry)) (now (code .entry)) (now (flags .exit)) r ⌝ }
+    requires { ⌜ Full (now permitted) ⌝ }
+    ensures { λ r. ⌜ Marks (now (limits .entry)) (now (permitted .entry)) (now (code .entry)) (now (flags .exit)) r ⌝ }
 {
     if code.len() == 0 {
         return 16;
     }
     clear(flags, code.len());
+    // 1 while all opcodes and prefixes so far are permitted, else 0.
+    let mut all: u8 = 1;
     let mut i: usize = 0;
     while i < code.len() {
         let d = digits(code[i]);
@@ -45,25 +76,31 @@ fn exam_16(code: &[u8], flags: &mut [u8], limits: &[u32]) -> u8
                 return (t / SIZE) as u8;
             }
             flags[i] = (t / SIZE) as u8;
+            all = with_prefixed(all, code, i, permitted);
             i += m;
         } else {
             if code.len() - i < n {
                 return 16;
             }
             flags[i] = flag_at(code, i, d, limits);
+            all = with_alone(all, code, i, permitted);
             i += n;
         }
+    }
+    if all == 0 {
+        return 32;
     }
     0
 }
 
-// 16 and 25 over the whole record, then 17 before 18 at each instruction in turn.
-pub fn exam_code(code: &[u8], flags: &mut [u8], limits: &[u32]) -> u8
+// 16 and 25 over the whole record, 32 over it, then 17 before 18 at each instruction in turn.
+pub fn exam_code(code: &[u8], flags: &mut [u8], limits: &[u32], permitted: &[u8]) -> u8
     requires { ⌜ length (now code) ≤ length (now flags) ⌝ }
     requires { ⌜ Limits (now limits) ⌝ }
-    ensures { λ r. ⌜ Coded (now (limits .entry)) (now (code .entry)) (now (flags .exit)) r ⌝ }
+    requires { ⌜ Full (now permitted) ⌝ }
+    ensures { λ r. ⌜ Coded (now (limits .entry)) (now (permitted .entry)) (now (code .entry)) (now (flags .exit)) r ⌝ }
 {
-    let a = exam_16(code, flags, limits);
+    let a = exam_16(code, flags, limits, permitted);
     if a != 0 {
         return a;
     }

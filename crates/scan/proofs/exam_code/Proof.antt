@@ -9,18 +9,18 @@ use borrow.Author.Tests.{not-true, not-false}
 use Rattle.flags.specs.Flags.{bare, landsFrom}
 use Rattle.flags.proofs.Goes.{flags-mark}
 use Rattle.scan.proofs.Going.{Going, going-start, going-skip, going-17, going-18, going-off, going-land, going-end, jump-entire, jump-inside, jump-behind}
-use Rattle.scan.proofs.Going.{passes, coded-16, coded-stop, coded-end}
+use Rattle.scan.proofs.Going.{passes, coded-marks, coded-stop, coded-end}
 use Rattle.scan.proofs.exam_code.Statement.{statement}
 use Rattle.scan.proofs.exam_code.Tie as tie
 
 abbrev Inv-loop : tie.InvT-loop
-Inv-loop code flags limits a i₀ i = Going (bare limits code) i
+Inv-loop code flags limits permitted a i₀ i = Going (bare limits code) i
 
 abbrev μ-loop : tie.MeasureT-loop
-μ-loop code flags limits a i₀ i = length code - i
+μ-loop code flags limits permitted a i₀ i = length code - i
 
 returns : tie.Need-returns Inv-loop μ-loop
-returns c = coded-16 (c .before .before .before .exam-16 .ensures) (c .if1 .taken)
+returns c = coded-marks (c .before .before .before .exam-16 .ensures) (c .if1 .taken)
 
 loop-holds : tie.Need-loop-holds Inv-loop μ-loop
 loop-holds c = going-start
@@ -86,7 +86,7 @@ returns-4 c =
     let loop = turn .before in
     let if1 = loop .before in
     let marks = if1 .before .before .before in
-    let code = marks .before .before .before .before .before .args .code .now in
+    let code = marks .before .before .before .before .before .before .args .code .now in
     coded-stop (marks .exam-16 .ensures) (if1 .if1 .left)
     (going-off (marks .exam-16 .ensures .flagged (if1 .if1 .left)) (turn .loop-test .taken) (loop .loop .inv)
     (omega (arith, if2 .if2 .left, if3 .if3 .left, if4 .if4 .left)) (lands .lands-at .ensures ∙ ap (landsFrom code) (next .next-offset .ensures)) (not-true _ (c .if5 .taken)))
@@ -102,7 +102,7 @@ loop-again-2 c =
     let loop = turn .before in
     let if1 = loop .before in
     let marks = if1 .before .before .before in
-    let code = marks .before .before .before .before .before .args .code .now in
+    let code = marks .before .before .before .before .before .before .args .code .now in
     going-land (marks .exam-16 .ensures .flagged (if1 .if1 .left)) (turn .loop-test .taken) (loop .loop .inv)
     (omega (arith, if2 .if2 .left, if3 .if3 .left, if4 .if4 .left)) (lands .lands-at .ensures ∙ ap (landsFrom code) (next .next-offset .ensures)) (not-false _ (c .if5 .left))
 
