@@ -1,6 +1,6 @@
 -- Paper 01's starred samples, as one table of the definitions, with some that it does not star, those of ident and size as paper 02's g) has them,
--- constants as its d) reads them, parents as its a) has them, newer opcodes as its c) and prefixes as its b) do, all under the desktop's allowance, and
--- those of other allowances as its h) has them; and sample A as a file that passes.
+-- constants as its d) reads them, parents as its a) has them, newer opcodes as its c) and prefixes as its b) do, all under the desktop's allowance
+-- and with everything permitted, those of other allowances as its h) has them and of other lists as its n) does; and sample A as a file that passes.
 -- Assumes nothing.
 use Prim.Native.Nat.{ℕ, _*_, _/_, _%_}
 use mathlib.Core.Path.{_≡_, refl}
@@ -255,6 +255,17 @@ record Table : Type 0 where
   hashadd-high : examinePattern everything (family (95 ∷ 1 ∷ 1 ∷ [])) ≡ 17
   super-wide : examinePattern everything (oval (117 ∷ 55 ∷ 1 ∷ 42 ∷ 1 ∷ 0 ∷ [])) ≡ 0
   hashadd-wide : examinePattern everything (oval (117 ∷ 95 ∷ 0 ∷ 0 ∷ 255 ∷ 255 ∷ [])) ≡ 17
+  permitted-none : examine fileA twoRows desktop [] .answer ≡ refused 32
+  permitted-none-followed : follow fileA twoRows desktop [] 2 (5 ∷ []) .answer ≡ refused 32
+  permitted-its-two : examine fileA twoRows desktop (set (set (replicate 62 0) 17 255) 61 2) .answer ≡ ok (unvisited (lent 1))
+  permitted-no-return : examine fileA twoRows desktop (set everything 61 0) .answer ≡ refused 32
+  permitted-not-above : permits (everything ++ 1 ∷ []) 119 ≡ false
+  permitted-no-prefix : examinePattern (set everything 115 0) (oval (115 ∷ 17 ∷ 1 ∷ 43 ∷ [])) ≡ 32
+  permitted-prefix-alone : examinePattern (set everything 17 0) (oval (115 ∷ 17 ∷ 1 ∷ 43 ∷ [])) ≡ 32
+  permitted-unreached : examinePattern (set everything 61 0) (alone (38 ∷ 255 ∷ 253 ∷ 61 ∷ 0 ∷ [])) ≡ 32
+  permitted-behind-high : examinePattern (set everything 61 0) (family (69 ∷ 2 ∷ [])) ≡ 32
+  permitted-next-record : examineAll (set everything 61 0) (alone (17 ∷ 2 ∷ 118 ∷ []) ++ alone (61 ∷ 0 ∷ [])) ≡ 17
+  permitted-unknown : examinePattern [] (alone (119 ∷ [])) ≡ 16
   packed-two : packed (129 ∷ 1 ∷ []) 0 ≡ ok (step 129 2)
   packed-most : packed (255 ∷ 255 ∷ 255 ∷ 255 ∷ 15 ∷ []) 0 ≡ ok (step 4294967295 5)
   packed-dropped : packed (255 ∷ 255 ∷ 255 ∷ 255 ∷ 127 ∷ []) 0 ≡ ok (step 4294967295 5)
@@ -288,8 +299,9 @@ unfolding table row operands opcode rest lastOf jump target fetchAs fetch packed
     poolEntry counted headAt bodyAt recordAt recordsFrom irepSection walk visits noZero plainText nameEntry recordNames lvarSection fileHead mapEntry
     mapLines filesFrom debugRecord debugContent debugSection packedEntry endSection sectionAt sections fileRefusal fileReading fits ending loadingWithin load sized
     endAlone lent twoRows nodeIn unvisited alone family oval fileD lentPool constantD fileM twoM noneM visited zeroInside recordIn rowIn bytesIn constantAt constantOf pool
-    rising layout span childOf nodesFrom reach lands stray readable below allBelow operandsBelow rangeBelow bounded comments form follows firstAt firstOf permits permittedAt exam16 exam32 exam1718 exam19 exam20 examineRecord
-    examineAll examinePattern passing examining examine childOperand move oneStep runFrom choicesFrom standing laidFrames frameTable following follow
+    rising layout span childOf nodesFrom reach lands stray readable below allBelow operandsBelow rangeBelow bounded comments form follows firstAt firstOf permits permittedAt
+    exam16 exam32 exam1718 exam19 exam20 examineRecord examineAll examinePattern passing examining examine childOperand move oneStep runFrom choicesFrom standing
+    laidFrames frameTable following follow
 samples = record {
   a-loads = refl;
   a-row = refl;
@@ -428,6 +440,17 @@ samples = record {
   hashadd-high = refl;
   super-wide = refl;
   hashadd-wide = refl;
+  permitted-none = refl;
+  permitted-none-followed = refl;
+  permitted-its-two = refl;
+  permitted-no-return = refl;
+  permitted-not-above = refl;
+  permitted-no-prefix = refl;
+  permitted-prefix-alone = refl;
+  permitted-unreached = refl;
+  permitted-behind-high = refl;
+  permitted-next-record = refl;
+  permitted-unknown = refl;
   packed-two = refl;
   packed-most = refl;
   packed-dropped = refl;
