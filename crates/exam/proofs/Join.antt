@@ -17,7 +17,10 @@ use Rattle.format.specs.Tree.{layout, whole}
 use Rattle.format.specs.Pattern.{Record, rlens}
 use Rattle.format.specs.Exam.{below, allBelow, operandsBelow, rangeBelow, bounded, follows, firstAt, at1718, exam1718, exam19, exam20, examineRecord, examineAll, examinePattern}
 use Rattle.format.proofs.RowsFrom.{rowsFrom-map, rows-start, rows-turn, rows-end}
+use Rattle.runs.proofs.Lists.{same-permits}
 use Rattle.flags.specs.Flags.{bare}
+use Rattle.examine_list.specs.Full.{Written}
+use Rattle.examine_list.proofs.Full.{written-permits}
 use Rattle.exam.specs.View.{recordAt, patternAt, rlensAt}
 use Rattle.exam.specs.Part.{examinePart}
 use Rattle.scan.proofs.First.{first-none, first-some, first-assoc}
@@ -67,15 +70,15 @@ module _ (l : List ℕ) (R : Record) (s : Same l R) where
 abbrev pub limitsAt : List ℕ → ℕ → ℕ → ℕ → List ℕ
 limitsAt recs r p t = 65536 ∷ recordWord recs r 2 ∷ recordWord recs r 10 ∷ recordWord recs r 12 ∷ recordWord recs r 3 ∷ p ∷ t ∷ []
 
-module _ (f recs hs ls : List ℕ) (r : ℕ) where
+module _ (q f recs hs ls : List ℕ) (r : ℕ) where
   pub record-is : (a e h hn l ln n p t : ℕ) → a ≡ recordWord recs r 6 → n ≡ recordWord recs r 5 → e ≡ a + n
       → h ≡ recordWord recs r 7 → hn ≡ recordWord recs r 8 → l ≡ recordWord recs r 17 → ln ≡ recordWord recs r 18
-      → examinePart (limitsAt recs r p t) (take (e - a) (drop a f)) hs h hn ls l ln ≡ examineRecord (recordAt f recs hs ls r)
+      → examinePart (limitsAt recs r p t) q (take (e - a) (drop a f)) hs h hn ls l ln ≡ examineRecord q (recordAt f recs hs ls r)
   unfolding examineRecord exam19 exam20
   record-is a e h hn l ln n p t ea en ee eh ehn el eln =
       let d : e - a ≡ recordWord recs r 5 = omega arith in
       let s : Same (limitsAt recs r p t) (recordAt f recs hs ls r) = record { regs = refl; constants = refl; symbols = refl; children = refl } in
-      rw (first-assoc, d, ea, eh, ehn, el, eln, bare-same (limitsAt recs r p t) (recordAt f recs hs ls r) s)
+      rw (first-assoc, first-assoc, d, ea, eh, ehn, el, eln, bare-same (limitsAt recs r p t) (recordAt f recs hs ls r) s)
 
 -- 15, at the record i with p trees to go
 abbrev rlenAt : List ℕ → ℕ → ℕ
@@ -120,26 +123,26 @@ module _ {recs : List ℕ} {n : ℕ} where
   laid-end {i} {p} h g = layout-nil p ∙ sym (g .so ∙ rw (rows-end (rlenAt recs) i n h))
 
 -- the records in turn, at the record r
-pub record Passed (f recs hs ls : List ℕ) (n r : ℕ) : Type 0 where
-  pub so : examineAll (patternAt f recs hs ls n) ≡ examineAll (rowsFrom (recordAt f recs hs ls) r (n - r))
+pub record Passed (q f recs hs ls : List ℕ) (n r : ℕ) : Type 0 where
+  pub so : examineAll q (patternAt f recs hs ls n) ≡ examineAll q (rowsFrom (recordAt f recs hs ls) r (n - r))
 
-module _ {f recs hs ls : List ℕ} {n : ℕ} where
-  pub passed-start : Passed f recs hs ls n 0
-  passed-start = record { so = ap examineAll (rows-start (recordAt f recs hs ls) 0 n n (omega arith)) }
+module _ {q f recs hs ls : List ℕ} {n : ℕ} where
+  pub passed-start : Passed q f recs hs ls n 0
+  passed-start = record { so = ap (examineAll q) (rows-start (recordAt f recs hs ls) 0 n n (omega arith)) }
 
-  module _ {r : ℕ} (h : r < n) (g : Passed f recs hs ls n r) where
-    turned : examineAll (patternAt f recs hs ls n)
-        ≡ first (examineRecord (recordAt f recs hs ls r)) (examineAll (rowsFrom (recordAt f recs hs ls) (r + 1) (n - (r + 1))))
+  module _ {r : ℕ} (h : r < n) (g : Passed q f recs hs ls n r) where
+    turned : examineAll q (patternAt f recs hs ls n)
+        ≡ first (examineRecord q (recordAt f recs hs ls r)) (examineAll q (rowsFrom (recordAt f recs hs ls) (r + 1) (n - (r + 1))))
     unfolding examineAll
     turned = g .so ∙ rw (rows-turn (recordAt f recs hs ls) r n h)
 
-    pub passed-turn : {x : ℕ} → x ≡ examineRecord (recordAt f recs hs ls r) → x ≡ 0 → Passed f recs hs ls n (r + 1)
-    passed-turn e z = record { so = turned ∙ first-none (examineRecord (recordAt f recs hs ls r)) _ (sym e ∙ z) }
+    pub passed-turn : {x : ℕ} → x ≡ examineRecord q (recordAt f recs hs ls r) → x ≡ 0 → Passed q f recs hs ls n (r + 1)
+    passed-turn e z = record { so = turned ∙ first-none (examineRecord q (recordAt f recs hs ls r)) _ (sym e ∙ z) }
 
-    pub passed-stop : {x : ℕ} → x ≡ examineRecord (recordAt f recs hs ls r) → (x ≡ 0 → ⊥) → x ≡ examineAll (patternAt f recs hs ls n)
+    pub passed-stop : {x : ℕ} → x ≡ examineRecord q (recordAt f recs hs ls r) → (x ≡ 0 → ⊥) → x ≡ examineAll q (patternAt f recs hs ls n)
     passed-stop {x} e z = rw (turned, ← e) (first-some x _ z)
 
-  pub passed-end : {r : ℕ} → n ≤ r → Passed f recs hs ls n r → 0 ≡ examineAll (patternAt f recs hs ls n)
+  pub passed-end : {r : ℕ} → n ≤ r → Passed q f recs hs ls n r → 0 ≡ examineAll q (patternAt f recs hs ls n)
   unfolding examineAll
   passed-end {r} h g = sym (g .so ∙ rw (rows-end (recordAt f recs hs ls) r n h))
 
@@ -148,10 +151,12 @@ module _ (f recs hs ls : List ℕ) (n : ℕ) where
   pub rlens-are : rlens (patternAt f recs hs ls n) ≡ rlensAt recs n
   rlens-are = rowsFrom-map (recordAt f recs hs ls) (λ (R : Record). R .rlen) 0 n
 
-  pub tree-bad : whole (rlensAt recs n) ≡ false → 15 ≡ examinePattern (patternAt f recs hs ls n)
+  pub tree-bad : (q : List ℕ) → whole (rlensAt recs n) ≡ false → 15 ≡ examinePattern q (patternAt f recs hs ls n)
   unfolding examinePattern
-  tree-bad e = rw (rlens-are, e)
+  tree-bad q e = rw (rlens-are, e)
 
-  pub tree-good : whole (rlensAt recs n) ≡ true → examineAll (patternAt f recs hs ls n) ≡ examinePattern (patternAt f recs hs ls n)
+  -- by a list, and by the list in full
+  pub tree-good : {q w : List ℕ} → Written q w → whole (rlensAt recs n) ≡ true
+      → examineAll w (patternAt f recs hs ls n) ≡ examinePattern q (patternAt f recs hs ls n)
   unfolding examinePattern
-  tree-good e = rw (rlens-are, e)
+  tree-good {q} {w} g e = rw (rlens-are, e) (same-permits w q (written-permits g) (patternAt f recs hs ls n))

@@ -59,7 +59,8 @@ pub record Fits (f recs hs ls : List ℕ) (n : ℕ) : Type 0 where
   pub small : length f ≤ 65536
   pub each : (r : ℕ) → r < n → RowFits f recs hs ls r
 
--- tables that a load filled, of a pattern that meets none of 15 to 20 and 25
+-- tables that a load filled, of a pattern that meets none of 15 to 20, 25 and 32 by some list
 pub record Ready (f recs hs ls : List ℕ) (n : ℕ) : Type 0 where
   pub fits : Fits f recs hs ls n
-  pub passes : examinePattern (patternAt f recs hs ls n) ≡ 0
+  pub list : List ℕ
+  pub passes : examinePattern list (patternAt f recs hs ls n) ≡ 0

@@ -1,4 +1,6 @@
-// Examination of a loaded pattern: conditions 15 to 20 and 25 over the file's bytes and the lent tables.
+// Examination of a loaded pattern by a list of permitted opcodes: conditions 15 to 20, 25 and 32 over the file's bytes and the lent tables.
+use examine_list::FULL;
+use examine_list::write_full;
 use flags::begins_at;
 use format::RECORD_WIDTH;
 use scan::exam_code;
@@ -11,6 +13,7 @@ ghost use Rattle.format.specs.Bytes.{refuse};
 ghost use Rattle.format.specs.Exam.{examineRecord, examineAll, examinePattern};
 ghost use Rattle.format.specs.Rows.{recordWidth};
 ghost use Rattle.flags.specs.Flags.{Limits, Marked};
+ghost use Rattle.examine_list.specs.Full.{Full};
 ghost use Rattle.exam.specs.View.{targets, entries, recordAt, patternAt, rlensAt, RowFits, Fits};
 ghost use Rattle.exam.specs.Part.{exam19Of, examinePart};
 
@@ -38,7 +41,7 @@ fn less(x: u32, n: u32) -> u32
     x - n
 }
 
-// RECORD_WIDTH over the `n` handlers from row `first` on.
+// 19 over the `n` handlers from row `first` on.
 fn exam_19(code: &[u8], flags: &[u8], handlers: &[u32], first: usize, n: usize) -> u8
     requires { ⌜ Marked (now code) (now flags) ⌝ }
     requires { ⌜ (first + n) * 4 ≤ length (now handlers) ⌝ }
@@ -82,14 +85,16 @@ fn examine_part(
     lines: &[u32],
     l: usize,
     ln: usize,
+    permitted: &[u8],
 ) -> u8
     requires { ⌜ length (now code) ≤ length (now flags) ⌝ }
     requires { ⌜ Limits (now limits) ⌝ }
     requires { ⌜ (h + hn) * 4 ≤ length (now handlers) ⌝ }
     requires { ⌜ (l + ln) * 2 ≤ length (now lines) ⌝ }
-    ensures { λ r. ⌜ r ≡ examinePart (now (limits .entry)) (now (code .entry)) (now (handlers .entry)) h hn (now (lines .entry)) l ln ⌝ }
+    requires { ⌜ Full (now permitted) ⌝ }
+    ensures { λ r. ⌜ r ≡ examinePart (now (limits .entry)) (now (permitted .entry)) (now (code .entry)) (now (handlers .entry)) h hn (now (lines .entry)) l ln ⌝ }
 {
-    let a = exam_code(code, flags, limits);
+    let a = exam_code(code, flags, limits, permitted);
     if a != 0 {
         return a;
     }
@@ -100,7 +105,7 @@ fn examine_part(
     exam_20(lines, l, ln)
 }
 
-// Examination of record `r`: the number of the first condition of 16 to 20 and 25 that it meets, 0 where it passes.
+// Examination of record `r` by a list in full: the number of the first condition of 16 to 20, 25 and 32 that it meets, 0 where it passes.
 pub fn examine_record(
     file: &[u8],
     records: &[u32],
@@ -108,10 +113,12 @@ pub fn examine_record(
     lines: &[u32],
     flags: &mut [u8],
     r: usize,
+    permitted: &[u8],
 ) -> u8
     requires { ⌜ RowFits (now file) (now records) (now handlers) (now lines) r ⌝ }
     requires { ⌜ length (now file) ≤ length (now flags) ⌝ }
-    ensures { λ x. ⌜ x ≡ examineRecord (recordAt (now (file .entry)) (now (records .entry)) (now (handlers .entry)) (now (lines .entry)) r) ⌝ }
+    requires { ⌜ Full (now permitted) ⌝ }
+    ensures { λ x. ⌜ x ≡ examineRecord (now (permitted .entry)) (recordAt (now (file .entry)) (now (records .entry)) (now (handlers .entry)) (now (lines .entry)) r) ⌝ }
 {
     let row = r * RECORD_WIDTH;
     let place = word(records, row + 6);
@@ -139,6 +146,7 @@ pub fn examine_record(
         lines,
         word(records, row + 17),
         word(records, row + 18),
+        permitted,
     )
 }
 
@@ -160,7 +168,7 @@ pub fn whole_tree(records: &[u32], n: usize) -> bool
     p == 0
 }
 
-// Examination of the first `n` records in turn.
+// Examination of the first `n` records in turn, by a list in full.
 fn examine_all(
     file: &[u8],
     records: &[u32],
@@ -168,14 +176,16 @@ fn examine_all(
     lines: &[u32],
     n: usize,
     flags: &mut [u8],
+    permitted: &[u8],
 ) -> u8
     requires { ⌜ Fits (now file) (now records) (now handlers) (now lines) n ⌝ }
     requires { ⌜ length (now file) ≤ length (now flags) ⌝ }
-    ensures { λ x. ⌜ x ≡ examineAll (patternAt (now (file .entry)) (now (records .entry)) (now (handlers .entry)) (now (lines .entry)) n) ⌝ }
+    requires { ⌜ Full (now permitted) ⌝ }
+    ensures { λ x. ⌜ x ≡ examineAll (now (permitted .entry)) (patternAt (now (file .entry)) (now (records .entry)) (now (handlers .entry)) (now (lines .entry)) n) ⌝ }
 {
     let mut r: usize = 0;
     while r < n {
-        let a = examine_record(file, records, handlers, lines, flags, r);
+        let a = examine_record(file, records, handlers, lines, flags, r, permitted);
         if a != 0 {
             return a;
         }
@@ -184,18 +194,27 @@ fn examine_all(
     0
 }
 
-// Examination of the first `n` records: the number of the first condition of 15 to 20 and 25 that is met, 0 where the pattern passes.
-pub fn examine_tables(file: &[u8], records: &[u32], handlers: &[u32], lines: &[u32], n: usize) -> u8
+// Examination of the first `n` records: the number of the first condition of 15 to 20, 25 and 32 that is met, 0 where the pattern passes.
+pub fn examine_tables(
+    file: &[u8],
+    records: &[u32],
+    handlers: &[u32],
+    lines: &[u32],
+    n: usize,
+    permitted: &[u8],
+) -> u8
     requires { ⌜ Fits (now file) (now records) (now handlers) (now lines) n ⌝ }
-    ensures { λ x. ⌜ x ≡ examinePattern (patternAt (now (file .entry)) (now (records .entry)) (now (handlers .entry)) (now (lines .entry)) n) ⌝ }
+    ensures { λ x. ⌜ x ≡ examinePattern (now (permitted .entry)) (patternAt (now (file .entry)) (now (records .entry)) (now (handlers .entry)) (now (lines .entry)) n) ⌝ }
 {
     if !whole_tree(records, n) {
         return 15;
     }
+    let mut full: [u8; FULL] = [0; FULL];
+    write_full(permitted, &mut full);
     if file.len() <= 4096 {
         let mut few: [u8; 4096] = [0; 4096];
-        return examine_all(file, records, handlers, lines, n, &mut few);
+        return examine_all(file, records, handlers, lines, n, &mut few, &full);
     }
     let mut flags: [u8; 65536] = [0; 65536];
-    examine_all(file, records, handlers, lines, n, &mut flags)
+    examine_all(file, records, handlers, lines, n, &mut flags, &full)
 }

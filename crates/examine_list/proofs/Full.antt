@@ -9,12 +9,13 @@ use mathlib.Core.Bool.{Bool, true, false, _&&_, cond}
 use mathlib.Core.List.{List}
 use lib.Dec.{ltb, leb}
 use lib.Bits.{bitAnd}
-use lib.ListN.{length, getD, set, length-set, List·getD-eq-default}
+use lib.ListN.{length, getD, set, replicate, length-set, length-replicate, List·getD-eq-default}
 use lib.Seq.{getD-set-same, getD-set-other}
 use borrow.Author.Tests.{lt-ltb, le-ltb, ltb-true, ltb-false, leb-true, leb-false}
 use Rattle.format.specs.Allowance.{least}
 use Rattle.format.specs.Insn.{known}
 use Rattle.format.specs.Permitted.{permits}
+use Rattle.format.proofs.Places.{zeros}
 use Rattle.examine_list.specs.Full.{said, Blank, Written, Full}
 
 -- an answer is at most 1, and comes back from its number
@@ -38,6 +39,9 @@ both-is (suc zero) zero h g = refl
 both-is (suc zero) (suc zero) h g = refl
 both-is (suc zero) (suc (suc b)) h g = absurd (omega arith)
 both-is (suc (suc a)) b h g = absurd (omega arith)
+
+pub blank : Blank (replicate 256 0)
+blank = record { bytes = length-replicate {A = ℕ} 256 0; zeros = zeros 256 }
 
 -- A list in full permits what the list does, and is in full itself.
 module _ {q w : List ℕ} (f : Written q w) where

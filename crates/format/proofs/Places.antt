@@ -18,6 +18,12 @@ use Rattle.format.specs.Load.{joined, gathered, mapOfFiles, Before, star
 pub part-is : (f : List ℕ) (at : ℕ) → take (length f - at) (drop at f) ≡ drop at f
 part-is f at = take-all (length f - at) (drop at f) (le-of-eq (length-drop at f))
 
+-- a table of zeros has no other word
+pub zeros : (n i : ℕ) → _≡_ {A = ℕ} (getD (replicate n 0) i 0) 0
+zeros zero i = refl
+zeros (suc n) zero = refl
+zeros (suc n) (suc i) = zeros n i
+
 -- lists joined, and what is gathered from a list, one behind another
 pub joined-append : {A : Type 0} (xs ys : List (List A)) → joined (xs ++ ys) ≡ joined xs ++ joined ys
 joined-append [] ys = refl

@@ -8,7 +8,7 @@ use mathlib.Core.Path.{_≡_, refl, sym, _∙_}
 use mathlib.Core.Bool.{Bool, true, false, _||_, cond}
 use mathlib.Core.List.{List, map}
 use lib.Dec.{leb, eqb}
-use lib.ListN.{length, getD, replicate, length-append, length-replicate, length-map, List·getD-map}
+use lib.ListN.{length, getD, length-append, length-replicate, length-map, List·getD-map}
 use lib.Seq.{ext-getD, getD-append-add}
 use borrow.Author.Tests.{lt-ltb, le-ltb, le-leb}
 use Rattle.format.specs.Bytes.{ok, refused}
@@ -16,7 +16,7 @@ use Rattle.format.specs.Rows.{Range, HandlerRow, handlerWords, PoolRow, poolWor
 use Rattle.format.specs.Rows.{LineRow, lineRow, lineWords, RecordRow, recordWidth, recordWords, flat, tableOf}
 use Rattle.format.specs.Line.{rowsFrom, lineRowAt}
 use Rattle.format.specs.Lookup.{word, recordWord, recordRowAt, handlerRowAt, poolRowAt, textRowAt, fileRowAt, hasRow, rowIn, rowsIn}
-use Rattle.format.proofs.Places.{flat-length}
+use Rattle.format.proofs.Places.{zeros, flat-length}
 use Rattle.format.proofs.RowsFrom.{rowsFrom-length, rowsFrom-at}
 use Rattle.layout.proofs.Own.{Own, table-row, own-word}
 
@@ -25,11 +25,6 @@ pub rows-back : {A : Type 0} (view : ℕ → A) (first : ℕ) (l : List A) (d : 
 rows-back view first l d h =
     ext-getD d (rowsFrom view first (length l)) l (rowsFrom-length view first (length l))
     (λ j g. let k : j < length l = rw (← rowsFrom-length view first (length l)) g in rowsFrom-at view first (length l) j d k ∙ h j k)
-
-zeros : (n i : ℕ) → _≡_ {A = ℕ} (getD (replicate n 0) i 0) 0
-zeros zero i = refl
-zeros (suc n) zero = refl
-zeros (suc n) (suc i) = zeros n i
 
 module _ {R : Type 0} (words : R → List ℕ) (w : ℕ) (wide : (r : R) → length (words r) ≡ w) where
   -- a row behind those that are used

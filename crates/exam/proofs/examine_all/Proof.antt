@@ -10,19 +10,21 @@ use Rattle.exam.proofs.examine_all.Statement.{statement}
 use Rattle.exam.proofs.examine_all.Tie as tie
 
 abbrev Inv-loop : tie.InvT-loop
-Inv-loop file records handlers lines n flags₀ r₀ flags r = (length flags ≡ length flags₀) × Passed file records handlers lines n r
+Inv-loop file records handlers lines n flags₀ permitted r₀ flags r = (length flags ≡ length flags₀) × Passed permitted file records handlers lines n r
 
 abbrev μ-loop : tie.MeasureT-loop
-μ-loop file records handlers lines n flags₀ r₀ flags r = n - r
+μ-loop file records handlers lines n flags₀ permitted r₀ flags r = n - r
 
 loop-holds : tie.Need-loop-holds Inv-loop μ-loop
 loop-holds c = (refl, passed-start)
 
 examine-record-requires : tie.Need-examine-record-requires Inv-loop μ-loop
 examine-record-requires c κs =
-    let c2 = c .before .before in
-    let c8 = c2 .before .before .before .before .before .before in
-    (c8 .pre .0 .each (c2 .loop .r) (c .before .loop-test .taken), omega (arith, c8 .pre .1, c2 .loop .inv .0))
+    let turn = c .before in
+    let loop = turn .before in
+    let start = loop .before .before .before .before .before .before .before in
+    let p = start .pre in
+    (p .0 .each (loop .loop .r) (turn .loop-test .taken), (omega (arith, p .1 .0, loop .loop .inv .0), p .1 .1))
 
 returns : tie.Need-returns Inv-loop μ-loop
 returns c =

@@ -10,9 +10,9 @@ returns c = rw (← c .before .before .before .exam-code .ensures .answers) (fir
 
 exam-19-requires : tie.Need-exam-19-requires
 exam-19-requires c κs =
-    let c4 = c .before .before .before .before in
-    let c11 = c4 .before .before .before .before .before .before .before in
-    (c4 .exam-code .ensures .marked (c .before .if1 .left), c11 .pre .1 .1 .0)
+    let coded = c .before .before .before .before in
+    let start = coded .before .before .before .before .before .before .before .before in
+    (coded .exam-code .ensures .marked (c .before .if1 .left), start .pre .1 .1 .0)
 
 returns-2 : tie.Need-returns-2
 returns-2 c =
