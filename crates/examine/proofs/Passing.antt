@@ -54,45 +54,45 @@ module _ (f : List ℕ) (m : Nine) (allow : Allowance) (w : Words) (u : Used) wh
     pub pattern-given : patternAt f (w .records) (w .handlers) (w .lines) (u .records) ≡ patternOf f (g .content)
     pattern-given = rw (g .tables, count-is) (pattern-is f m (g .content))
 
-    module _ (rows k : ℕ) (e : k ≡ refusalOf rows (u .records) (patternAt f (w .records) (w .handlers) (w .lines) (u .records))) where
-      refusal-is : k ≡ refusalOf rows (length (recordsOf (g .content))) (patternOf f (g .content))
+    module _ (q : List ℕ) (rows k : ℕ) (e : k ≡ refusalOf rows (u .records) q (patternAt f (w .records) (w .handlers) (w .lines) (u .records))) where
+      refusal-is : k ≡ refusalOf rows (length (recordsOf (g .content))) q (patternOf f (g .content))
       refusal-is = e ∙ rw (pattern-given, count-is)
 
-      answer-is : passingIn f m allow rows ≡ cond (eqb k 0) (ok (g .content)) (refused k)
+      answer-is : passingIn f m allow q rows ≡ cond (eqb k 0) (ok (g .content)) (refused k)
       unfolding passing
       answer-is = go (leb (length (recordsOf (g .content))) rows) refl
         where
-          go : (b : Bool) → leb (length (recordsOf (g .content))) rows ≡ b → passingIn f m allow rows ≡ cond (eqb k 0) (ok (g .content)) (refused k)
-          go true q = let r = refusal-is in let s : k ≡ examinePattern (patternOf f (g .content)) = r ∙ rw q in rw (g .loads, q, s)
-          go false q = let r = refusal-is in let s : k ≡ 14 = r ∙ rw q in rw (g .loads, q, s)
+          go : (b : Bool) → leb (length (recordsOf (g .content))) rows ≡ b → passingIn f m allow q rows ≡ cond (eqb k 0) (ok (g .content)) (refused k)
+          go true b = let r = refusal-is in let s : k ≡ examinePattern q (patternOf f (g .content)) = r ∙ rw b in rw (g .loads, b, s)
+          go false b = let r = refusal-is in let s : k ≡ 14 = r ∙ rw b in rw (g .loads, b, s)
 
       -- nothing is met: the rows stay
-      pub went : k ≡ 0 → loadedOf (loaded.Rows u) w ≡ laid m (passingIn f m allow rows)
+      pub went : k ≡ 0 → loadedOf (loaded.Rows u) w ≡ laid m (passingIn f m allow q rows)
       went z = let a = answer-is in rw (a, z, g .counted, g .tables)
 
       -- a condition is met: the tables are cleared
-      pub stopped : ¬ (k ≡ 0) → (w′ : Words) → w′ ≡ wordsOf m (tablesOf nothing) → loadedOf (loaded.Refused k) w′ ≡ laid m (passingIn f m allow rows)
-      stopped z w′ q = let a = answer-is in let n : eqb k 0 ≡ false = ne-eqb k 0 z in rw (a, n, q)
+      pub stopped : ¬ (k ≡ 0) → (w′ : Words) → w′ ≡ wordsOf m (tablesOf nothing) → loadedOf (loaded.Refused k) w′ ≡ laid m (passingIn f m allow q rows)
+      stopped z w′ zero = let a = answer-is in let n : eqb k 0 ≡ false = ne-eqb k 0 z in rw (a, n, zero)
 
 -- a load that is refused
-pub load-stopped : (f : List ℕ) (m : Nine) (allow : Allowance) (w : Words) (k rows : ℕ) (r : Loaded) → loadedOf r w ≡ load f m allow → r ≡ loaded.Refused k
-    → loadedOf (loaded.Refused k) w ≡ laid m (passingIn f m allow rows)
+pub load-stopped : (f : List ℕ) (m : Nine) (allow : Allowance) (q : List ℕ) (w : Words) (k rows : ℕ) (r : Loaded) → loadedOf r w ≡ load f m allow → r ≡ loaded.Refused k
+    → loadedOf (loaded.Refused k) w ≡ laid m (passingIn f m allow q rows)
 unfolding load
-load-stopped f m allow w k rows r e s = go (loading f m allow) refl (ap (λ x. loadedOf x w) (sym s) ∙ e)
+load-stopped f m allow q w k rows r e s = go (loading f m allow) refl (ap (λ x. loadedOf x w) (sym s) ∙ e)
   where
-    go : (a : Answer Content) → loading f m allow ≡ a → loadedOf (loaded.Refused k) w ≡ laid m a → loadedOf (loaded.Refused k) w ≡ laid m (passingIn f m allow rows)
-    go (ok c) q e = let x : refused k ≡ ok (counts c) = ap (λ l. l .answer) e in absurd (ok-refused x)
-    go (refused n) q e = e ∙ rw q
+    go : (a : Answer Content) → loading f m allow ≡ a → loadedOf (loaded.Refused k) w ≡ laid m a → loadedOf (loaded.Refused k) w ≡ laid m (passingIn f m allow q rows)
+    go (ok c) l e = let x : refused k ≡ ok (counts c) = ap (λ l. l .answer) e in absurd (ok-refused x)
+    go (refused n) l e = e ∙ rw l
 
 -- at most 1,024 records are loaded, so a bound of 1,024 is none
-pub examining-is : (f : List ℕ) (m : Nine) (allow : Allowance) → passingIn f m allow 1024 ≡ examining f m allow
+pub examining-is : (f : List ℕ) (m : Nine) (allow : Allowance) (q : List ℕ) → passingIn f m allow q 1024 ≡ examining f m allow q
 unfolding examining fits
-examining-is f m allow = go (loading f m allow) refl
+examining-is f m allow q = go (loading f m allow) refl
   where
-    go : (a : Answer Content) → loading f m allow ≡ a → passingIn f m allow 1024 ≡ bind (loading f m allow) (passing f)
-    go (ok c) q =
-        let t = loading-reading f m allow c q .2 in
+    go : (a : Answer Content) → loading f m allow ≡ a → passingIn f m allow q 1024 ≡ bind (loading f m allow) (passing q f)
+    go (ok c) l =
+        let t = loading-reading f m allow c l .2 in
         let limit = leb→le (length (tablesOf c .records)) 1024 (search both depth 12) in
         let few : length (recordsOf c) ≤ 1024 = omega (arith, limit, records-length c) in
-        rw (q, le-leb (length (recordsOf c)) 1024 few)
-    go (refused n) q = rw q
+        rw (l, le-leb (length (recordsOf c)) 1024 few)
+    go (refused n) l = rw l

@@ -12,8 +12,8 @@ ghost use Rattle.format.specs.Run.{follow};
 ghost use Rattle.rite.specs.Answers.{words, sizes, allowanceOf};
 ghost use Rattle.follow.specs.Answers.{followed};
 
-// Follows the run of a file under an allowance along choice bytes, over nine lent tables and a frame table: the tables as after a load, and the frames, lowest
-// first, then zeros; after a refusal every table is zeros alone.
+// Follows the run of a file under an allowance and a list of permitted opcodes along choice bytes, over nine lent tables and a frame table: the tables as
+// after a load, and the frames, lowest first, then zeros; after a refusal every table is zeros alone.
 pub fn follow(
     f: &[u8],
     records: &mut [u32],
@@ -28,11 +28,13 @@ pub fn follow(
     frames: &mut [u32],
     choices: &[u8],
     a: Allowance,
+    permitted: &[u8],
 ) -> Followed
     ensures { λ r. ⌜ followed r (words (now (records .exit)) (now (handlers .exit)) (now (pool .exit)) (now (symbols .exit)) (now (strings .exit)) (now (names .exit))
         (now (filenames .exit)) (now (files .exit)) (now (lines .exit))) (now (frames .exit))
         ≡ follow (now (f .entry)) (sizes (words (now (records .entry)) (now (handlers .entry)) (now (pool .entry)) (now (symbols .entry)) (now (strings .entry))
-        (now (names .entry)) (now (filenames .entry)) (now (files .entry)) (now (lines .entry)))) (allowanceOf a) (length (now (frames .entry))) (now (choices .entry)) ⌝ }
+        (now (names .entry)) (now (filenames .entry)) (now (files .entry)) (now (lines .entry)))) (allowanceOf a)
+        (now (permitted .entry)) (length (now (frames .entry))) (now (choices .entry)) ⌝ }
 {
     match load_passing(
         f,
@@ -47,6 +49,7 @@ pub fn follow(
         lines,
         frames.len() / 2,
         a,
+        permitted,
     ) {
         Loaded::Rows(u) => {
             let n = u.records as usize;

@@ -12,7 +12,8 @@ use Rattle.format.specs.Registers.{comments, form}
 use Rattle.format.specs.Line.{rowsFrom, halve, lineAt, rising}
 use Rattle.format.specs.Tree.{layout, span, childOf, noParent}
 use Rattle.format.specs.Pattern.{Pattern, reach}
-use Rattle.format.specs.Exam.{stray, readable, below, allBelow, operandsBelow, rangeBelow, bounded, follows, firstAt, firstOf, exam16, exam1718, exam19, exam20}
+use Rattle.format.specs.Permitted.{permits, permittedAt, everything}
+use Rattle.format.specs.Exam.{stray, readable, below, allBelow, operandsBelow, rangeBelow, bounded, follows, firstAt, firstOf, exam16, exam32, exam1718, exam19, exam20}
 use Rattle.format.specs.Exam.{examineRecord, examineAll, examinePattern}
 use Rattle.format.specs.Run.{frame, childOperand, move, oneStep, runFrom, choicesFrom, finished, stands, standing, laidFrames, frameTable}
 use Rattle.exam.specs.View.{patternAt, RowFits, Ready}
@@ -39,8 +40,8 @@ lines = 0 ∷ 7 ∷ []
 
 pub ready : Ready bytes records handlers lines 2
 unfolding table row rowsFrom opcode operands rest reach layout stray readable operandsBelow rangeBelow bounded comments form follows below allBelow firstAt firstOf
-    exam16 exam1718 exam19 exam20 rising examineRecord examineAll examinePattern
-ready = record { fits = record { few = omega arith; held = omega arith; small = omega arith; each = one }; passes = refl }
+    permits permittedAt exam16 exam32 exam1718 exam19 exam20 rising examineRecord examineAll examinePattern
+ready = record { fits = record { few = omega arith; held = omega arith; small = omega arith; each = one }; list = everything; passes = refl }
   where
     one : (r : ℕ) → r < 2 → RowFits bytes records handlers lines r
     one zero h = record { inside = omega arith; bytes = omega arith; handling = omega arith; lined = omega arith }

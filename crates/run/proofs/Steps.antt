@@ -52,7 +52,7 @@ module _ {f recs hs ls t : List ℕ} {n d : ℕ}
   p = patternAt f recs hs ls n
 
   good : GoodFile p
-  good = good-file p (pre .0 .passes)
+  good = good-file (pre .0 .list) p (pre .0 .passes)
 
   pub sizes : Sizes t n d
   sizes = record { few = pre .0 .fits .few; depth = omega (arith, pre .1 .1 .deep, stack-few p good (framesOf t d) (length p) (pre .1 .1 .stack), pattern-length f recs hs ls n); room = pre .1 .0 }

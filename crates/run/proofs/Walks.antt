@@ -40,7 +40,7 @@ pub walking-start : {f recs hs ls : List ℕ} {n : ℕ} (bs : List ℕ) {t : Lis
 unfolding runFrom
 walking-start {f} {recs} {hs} {ls} {n} bs {t} R room e =
     let s : Stack (patternAt f recs hs ls n) (length (patternAt f recs hs ls n)) start
-    = run-stack (patternAt f recs hs ls n) (good-file (patternAt f recs hs ls n) (R .passes)) [] in
+    = run-stack (patternAt f recs hs ls n) (good-file (R .list) (patternAt f recs hs ls n) (R .passes)) [] in
     let l : 2 ≤ length t = omega (arith, s .0, pattern-length f recs hs ls n) in
     let h : Held (patternAt f recs hs ls n) t 1 start = record { table = e ∙ zeros-start (length t) l; deep = refl; stack = s } in
     let q : framesOf t 1 ≡ start = held-frames (patternAt f recs hs ls n) t 1 start h in
