@@ -108,34 +108,43 @@ falls-at (e ∷ f ∷ m) t = go (leb (e .pos) (f .pos)) refl t (falls-at (f ∷ 
     go true q t ih = let w = ih t in (suc (w .0), suc-le-suc (w .1), w .2)
     go false q t ih = (0, omega arith, nleb→lt _ _ (subst (λ (b : Bool). T (not b)) (sym q) tt))
 
+-- a number of 16's reading is 16 or 25, by their words
+pub told-16 : (r : Record) (n : ℕ) → exam16 (r .code) ≡ suc n → ((16 ≡ suc n) × Bad16 r) ⊎ ((25 ≡ suc n) × Bad25 r)
+unfolding exam16
+told-16 r n e = go (first-hit (refuse 16 (ltb 0 (ilen r))) _ n e)
+  where
+    which : (o : ℕ) → T (begins (r .code) o) → (s : Bool) → stray (r .code) o ≡ s → cond s 25 (refuse 16 (readable (r .code) o)) ≡ suc n
+        → ((16 ≡ suc n) × Bad16 r) ⊎ ((25 ≡ suc n) × Bad25 r)
+    which o t true p e = inr (e, record { at = o; starts = t; alone = subst T (sym p) tt })
+    which o t false p e =
+        let h = refuse-hit 16 n (readable (r .code) o) e in
+        inl (h .0, inr (record { at = o; starts = t; paired = subst (λ (b : Bool). T (not b)) (sym p) tt; fails = h .1 }))
+
+    go : (refuse 16 (ltb 0 (ilen r)) ≡ suc n) ⊎ (firstAt (at16 (r .code)) (r .code) 0 0 ≡ suc n) → ((16 ≡ suc n) × Bad16 r) ⊎ ((25 ≡ suc n) × Bad25 r)
+    go (inl e) =
+        let h = refuse-hit 16 n (ltb 0 (ilen r)) e in
+        inl (h .0, inl (omega (arith, nltb→le 0 (ilen r) (h .1))))
+    go (inr e) =
+        let i = firstAt-hit (at16 (r .code)) (r .code) 0 0 n e in
+        which (i .at) (i .starts) (stray (r .code) (i .at)) refl (rw zero-add at (i .gives))
+
+-- and one of 32's is 32
+pub told-32 : (q : List ℕ) (r : Record) (n : ℕ) → exam32 q (r .code) ≡ suc n → (32 ≡ suc n) × Bad32 q r
+unfolding exam32
+told-32 q r n e =
+    let i = firstAt-hit (at32 q (r .code)) (r .code) 0 0 n e in
+    let h = refuse-hit 32 n (permittedAt q (r .code) (i .at)) (rw zero-add at (i .gives)) in
+    (h .0, record { at = i .at; starts = i .starts; forbidden = h .1 })
+
 module _ (q : List ℕ) (r : Record) (n : ℕ) where
   same : {k : ℕ} → k ≡ suc n → Bad q r k → Bad q r (suc n)
   same e b = subst (λ (k : ℕ). Bad q r k) e b
 
   hit16 : exam16 (r .code) ≡ suc n → Bad q r (suc n)
-  unfolding exam16
-  hit16 e = go (first-hit (refuse 16 (ltb 0 (ilen r))) _ n e)
-    where
-      which : (o : ℕ) → T (begins (r .code) o) → (s : Bool) → stray (r .code) o ≡ s → cond s 25 (refuse 16 (readable (r .code) o)) ≡ suc n → Bad q r (suc n)
-      which o t true p e = same e (bad25 (record { at = o; starts = t; alone = subst T (sym p) tt }))
-      which o t false p e =
-          let h = refuse-hit 16 n (readable (r .code) o) e in
-          same (h .0) (bad16 (inr (record { at = o; starts = t; paired = subst (λ (b : Bool). T (not b)) (sym p) tt; fails = h .1 })))
-
-      go : (refuse 16 (ltb 0 (ilen r)) ≡ suc n) ⊎ (firstAt (at16 (r .code)) (r .code) 0 0 ≡ suc n) → Bad q r (suc n)
-      go (inl e) =
-          let h = refuse-hit 16 n (ltb 0 (ilen r)) e in
-          same (h .0) (bad16 (inl (omega (arith, nltb→le 0 (ilen r) (h .1)))))
-      go (inr e) =
-          let i = firstAt-hit (at16 (r .code)) (r .code) 0 0 n e in
-          which (i .at) (i .starts) (stray (r .code) (i .at)) refl (rw zero-add at (i .gives))
+  hit16 e = elim (told-16 r n e) [ inl h ↦ same (h .0) (bad16 (h .1)) | inr h ↦ same (h .0) (bad25 (h .1)) ]
 
   hit32 : exam32 q (r .code) ≡ suc n → Bad q r (suc n)
-  unfolding exam32
-  hit32 e =
-      let i = firstAt-hit (at32 q (r .code)) (r .code) 0 0 n e in
-      let h = refuse-hit 32 n (permittedAt q (r .code) (i .at)) (rw zero-add at (i .gives)) in
-      same (h .0) (bad32 (record { at = i .at; starts = i .starts; forbidden = h .1 }))
+  hit32 e = let h = told-32 q r n e in same (h .0) (bad32 (h .1))
 
   hit1718 : exam1718 r ≡ suc n → Bad q r (suc n)
   unfolding exam1718
