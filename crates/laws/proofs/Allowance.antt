@@ -144,13 +144,13 @@ module _ (f : List ℕ) (m : Nine) (a : Allowance) (e : ℕ) (r : loading f m a 
   unfolding load
   refused-load = rw r
 
-  pub refused-examine : examine f m a .answer ≡ refused e
+  pub refused-examine : (q : List ℕ) → examine f m a q .answer ≡ refused e
   unfolding examine examining
-  refused-examine = rw r
+  refused-examine q = rw r
 
-  pub refused-follow : (n : ℕ) (bs : List ℕ) → follow f m a n bs .answer ≡ refused e
+  pub refused-follow : (q : List ℕ) (n : ℕ) (bs : List ℕ) → follow f m a q n bs .answer ≡ refused e
   unfolding follow following
-  refused-follow n bs = rw r
+  refused-follow q n bs = rw r
 
 -- A file that loads: its reading without an allowance, which its tests accept, which nothing refuses and whose rows fit
 record Loads (f : List ℕ) (m : Nine) (c : Content) : Type 0 where
@@ -247,27 +247,27 @@ module _ (f : List ℕ) (m : Nine) where
     same-rows c e = rw (same-loading c e)
 
     -- so what passes under one passes under the other, with the same answer and the same tables
-    pub same-examine : (k : Counts) → examine f m a .answer ≡ ok k → examine f m b ≡ examine f m a
+    pub same-examine : (q : List ℕ) (k : Counts) → examine f m a q .answer ≡ ok k → examine f m b q ≡ examine f m a q
     unfolding examine examining
-    same-examine k e = by-load (loading f m a) refl
+    same-examine q k e = by-load (loading f m a) refl
       where
-        by-load : (x : Answer Content) → loading f m a ≡ x → examine f m b ≡ examine f m a
-        by-load (ok c) q = rw (same-loading c q)
-        by-load (refused n) q = absurd (ok-refused (rw q at e))
+        by-load : (x : Answer Content) → loading f m a ≡ x → examine f m b q ≡ examine f m a q
+        by-load (ok c) r = rw (same-loading c r)
+        by-load (refused n) r = absurd (ok-refused (rw r at e))
 
     -- and each run of it is the same
-    pub same-follow : (c : Content) → loading f m a ≡ ok c → (n : ℕ) (bs : List ℕ) → follow f m b n bs ≡ follow f m a n bs
+    pub same-follow : (c : Content) → loading f m a ≡ ok c → (q : List ℕ) (n : ℕ) (bs : List ℕ) → follow f m b q n bs ≡ follow f m a q n bs
     unfolding follow following
-    same-follow c e n bs = rw (same-loading c e)
+    same-follow c e q n bs = rw (same-loading c e)
 
   -- "a file refused by 29 under one is not accepted under a smaller"
   pub beyond-smaller : (a b : Allowance) → load f m a .answer ≡ refused 29 → Within b a → (c : Content) → ¬ (loading f m b ≡ ok c)
   unfolding load
   beyond-smaller a b r w c e = ok-refused (sym (rw (same-content b a c e w) at r))
 
--- so a file that passes under one allowance passes under any that is nowhere smaller
-pub same-passes : (f : List ℕ) (a b : Allowance) → Within a b → FilePasses f a → FilePasses f b
-same-passes f a b w p =
+-- so a file that passes under one allowance passes under any that is nowhere smaller, by the same list
+pub same-passes : (f : List ℕ) (a b : Allowance) (q : List ℕ) → Within a b → FilePasses f a q → FilePasses f b q
+same-passes f a b q w p =
     record { tables = p .tables; content = p .content; loads = same-content f (p .tables) a b (p .content) (p .loads) w; passes = p .passes }
 
 -- Under the desktop's allowance every answer is the one without an allowance.
@@ -290,13 +290,13 @@ module _ (f : List ℕ) (m : Nine) where
   unfolding load free.load
   desktop-load = rw desktop-loading
 
-  pub desktop-examine : examine f m desktop ≡ free.examine f m
+  pub desktop-examine : (q : List ℕ) → examine f m desktop q ≡ free.examine f m q
   unfolding examine examining free.examine free.examining
-  desktop-examine = rw desktop-loading
+  desktop-examine q = rw desktop-loading
 
-  pub desktop-follow : (n : ℕ) (bs : List ℕ) → follow f m desktop n bs ≡ free.follow f m n bs
+  pub desktop-follow : (q : List ℕ) (n : ℕ) (bs : List ℕ) → follow f m desktop q n bs ≡ free.follow f m q n bs
   unfolding follow following free.follow free.following
-  desktop-follow n bs = rw desktop-loading
+  desktop-follow q n bs = rw desktop-loading
 
   -- "A larger number in it counts as the desktop's."
   module _ (a : Allowance) (w : Within desktop a) where
@@ -307,10 +307,10 @@ module _ (f : List ℕ) (m : Nine) where
     unfolding load
     larger-load = rw larger-loading
 
-    pub larger-examine : examine f m a ≡ examine f m desktop
+    pub larger-examine : (q : List ℕ) → examine f m a q ≡ examine f m desktop q
     unfolding examine examining
-    larger-examine = rw larger-loading
+    larger-examine q = rw larger-loading
 
-    pub larger-follow : (n : ℕ) (bs : List ℕ) → follow f m a n bs ≡ follow f m desktop n bs
+    pub larger-follow : (q : List ℕ) (n : ℕ) (bs : List ℕ) → follow f m a q n bs ≡ follow f m desktop q n bs
     unfolding follow following
-    larger-follow n bs = rw larger-loading
+    larger-follow q n bs = rw larger-loading

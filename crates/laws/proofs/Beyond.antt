@@ -57,29 +57,29 @@ module _ (f : List ℕ) (m : Nine) where
         by-load (refused n) r = r ∙ ap refused (refused-same (sym (refused-load f m a n r) ∙ q))
 
     -- an examination has no 29 of its own
-    pub examine-29 : examine f m a .answer ≡ refused 29 → load f m a .answer ≡ refused 29
+    pub examine-29 : (q : List ℕ) → examine f m a q .answer ≡ refused 29 → load f m a .answer ≡ refused 29
     unfolding examine examining
-    examine-29 q = by-load (loading f m a) refl
+    examine-29 q e = by-load (loading f m a) refl
       where
         by-load : (x : Answer Content) → loading f m a ≡ x → load f m a .answer ≡ refused 29
         by-load (ok c) r =
             let R : ℕ → Type 0 = Among conditionNumbers in
-            absurd (subst (Refuses R) (rw r at q) (laid-refuses m R (passing f c) (passing-refuses f c)))
-        by-load (refused n) r = refused-load f m a n r ∙ ap refused (refused-same (sym (refused-examine f m a n r) ∙ q))
+            absurd (subst (Refuses R) (rw r at e) (laid-refuses m R (passing q f c) (passing-refuses f q c)))
+        by-load (refused n) r = refused-load f m a n r ∙ ap refused (refused-same (sym (refused-examine f m a n r q) ∙ e))
 
     -- nor has a run
-    pub follow-29 : (n : ℕ) (bs : List ℕ) → follow f m a n bs .answer ≡ refused 29 → load f m a .answer ≡ refused 29
+    pub follow-29 : (q : List ℕ) (n : ℕ) (bs : List ℕ) → follow f m a q n bs .answer ≡ refused 29 → load f m a .answer ≡ refused 29
     unfolding follow
-    follow-29 n bs q = by-load (loading f m a) refl
+    follow-29 q n bs e = by-load (loading f m a) refl
       where
         R : ℕ → Type 0
         R = Among (14 ∷ 21 ∷ conditionNumbers)
 
         by-load : (x : Answer Content) → loading f m a ≡ x → load f m a .answer ≡ refused 29
         by-load (ok c) r =
-            absurd (subst (Refuses R) q
-            (answered _ _ (λ (x : Followed). Refuses R (x .answer)) (following f m a n bs) _ _ (behind-refuses f m a c r n bs) (λ _ _. tt) (λ _ k. k)))
-        by-load (refused k) r = refused-load f m a k r ∙ ap refused (refused-same (sym (refused-follow f m a k r n bs) ∙ q))
+            absurd (subst (Refuses R) e
+            (answered _ _ (λ (x : Followed). Refuses R (x .answer)) (following f m a q n bs) _ _ (behind-refuses f m a q c r n bs) (λ _ _. tt) (λ _ k. k)))
+        by-load (refused k) r = refused-load f m a k r ∙ ap refused (refused-same (sym (refused-follow f m a k r q n bs) ∙ e))
 
     by-bytes : BytesBeyond f a ⊎ Allowed f (granted a .bytes)
     by-bytes = go (leb (length f) (a .bytes)) refl (leb (length f) 65536) refl
@@ -138,8 +138,8 @@ module _ (f : List ℕ) (m : Nine) where
       pub never-29-desktop : ¬ (load f m a .answer ≡ refused 29)
       never-29-desktop q = free-not-29 (sym (larger-loading f m a w ∙ desktop-loading f m) ∙ load-loading 29 q)
 
-      pub never-29-examine : ¬ (examine f m a .answer ≡ refused 29)
-      never-29-examine q = never-29-desktop (examine-29 q)
+      pub never-29-examine : (q : List ℕ) → ¬ (examine f m a q .answer ≡ refused 29)
+      never-29-examine q e = never-29-desktop (examine-29 q e)
 
-      pub never-29-follow : (n : ℕ) (bs : List ℕ) → ¬ (follow f m a n bs .answer ≡ refused 29)
-      never-29-follow n bs q = never-29-desktop (follow-29 n bs q)
+      pub never-29-follow : (q : List ℕ) (n : ℕ) (bs : List ℕ) → ¬ (follow f m a q n bs .answer ≡ refused 29)
+      never-29-follow q n bs e = never-29-desktop (follow-29 q n bs e)

@@ -1,4 +1,4 @@
--- Demand 3, for every file that passes under an allowance and every list of choices.
+-- Demand 3, for every file that passes under an allowance and a list of permitted opcodes, and every list of choices.
 -- Assumes nothing.
 use Prim.Native.Nat.{ℕ, suc, _+_, _*_, _/_, _≤_, _<_}
 use native.Mathlib.Nat.{le-refl}
@@ -26,7 +26,7 @@ use Rattle.format.proofs.Answers.{ok-same, either, Refuses}
 use Rattle.layout.proofs.Inside.{loading-reading}
 use Rattle.layout.proofs.Pattern.{pattern-length}
 use Rattle.runs.proofs.Tree.{whole-iff}
-use Rattle.runs.proofs.Exact.{good-file}
+use Rattle.runs.proofs.Exact.{good-file, permitting-file}
 use Rattle.runs.proofs.Refusal.{passes-iff}
 use Rattle.runs.proofs.Frame.{stack-frames, stack-falls, stack-few, run-stack, done-iff, top-is}
 use Rattle.laws.proofs.Walk as walk
@@ -68,33 +68,33 @@ refused-21 bs none-are = go (choices bs) refl (choices-21 bs kind)
     go (ok cs) e h = absurd (none-are cs e)
     go (refused k) e h = e ∙ ap refused h
 
-module _ (f : List ℕ) (c : Content) (e0 : examinePattern (patternOf f c) ≡ 0) (m : Nine) (a : Allowance) (n : ℕ) (bs : List ℕ)
+module _ (f : List ℕ) (c : Content) (q : List ℕ) (e0 : examinePattern q (patternOf f c) ≡ 0) (m : Nine) (a : Allowance) (n : ℕ) (bs : List ℕ)
     (l : loading f m a ≡ ok c) (h : length (recordsOf c) ≤ n / 2) where
-  passed : passing f c ≡ ok c
+  passed : passing q f c ≡ ok c
   unfolding passing
   passed = rw e0
 
   follow-ok : (cs : List Choice) → choices bs ≡ ok cs
-      → following f m a n bs ≡ ok (record { content = c; frames = run (patternOf f c) cs })
+      → following f m a q n bs ≡ ok (record { content = c; frames = run (patternOf f c) cs })
   unfolding following
   follow-ok cs e = rw (l, le-leb (length (recordsOf c)) (n / 2) h, passed, e)
 
-  follow-21 : choices bs ≡ refused 21 → following f m a n bs ≡ refused 21
+  follow-21 : choices bs ≡ refused 21 → following f m a q n bs ≡ refused 21
   unfolding following
   follow-21 e = rw (l, le-leb (length (recordsOf c)) (n / 2) h, passed, e)
 
-  answer-is : (cs : List Choice) → choices bs ≡ ok cs → follow f m a n bs .answer ≡ ok (standing (patternOf f c) (run (patternOf f c) cs))
+  answer-is : (cs : List Choice) → choices bs ≡ ok cs → follow f m a q n bs .answer ≡ ok (standing (patternOf f c) (run (patternOf f c) cs))
   unfolding follow
-  answer-is cs e = let q = follow-ok cs e in rw q
+  answer-is cs e = let w = follow-ok cs e in rw w
 
-  frames-are : (cs : List Choice) → choices bs ≡ ok cs → follow f m a n bs .frames ≡ frameTable n (run (patternOf f c) cs)
+  frames-are : (cs : List Choice) → choices bs ≡ ok cs → follow f m a q n bs .frames ≡ frameTable n (run (patternOf f c) cs)
   unfolding follow
-  frames-are cs e = let q = follow-ok cs e in rw q
+  frames-are cs e = let w = follow-ok cs e in rw w
 
-  pub follow-holds : (cs : List Choice) → choices bs ≡ ok cs → FollowHolds f c (run (patternOf f c) cs) m a n bs
+  pub follow-holds : (cs : List Choice) → choices bs ≡ ok cs → FollowHolds f c (run (patternOf f c) cs) m a q n bs
   follow-holds cs e =
       let p = patternOf f c in
-      let G = good-file p e0 in
+      let G = good-file q p e0 in
       let is = answer-is cs e in
       record {
         done = (λ k. done-iff p G (run p cs) .0 (ok-same (sym is ∙ k)), λ k. is ∙ ap ok (done-iff p G (run p cs) .1 k));
@@ -102,9 +102,9 @@ module _ (f : List ℕ) (c : Content) (e0 : examinePattern (patternOf f c) ≡ 0
         table = frames-are cs e;
       }
 
-  pub others-21 : ((ds : List Choice) → ¬ (choices bs ≡ ok ds)) → (follow f m a n bs .answer ≡ refused 21) × (follow f m a n bs .frames ≡ frameTable n [])
+  pub others-21 : ((ds : List Choice) → ¬ (choices bs ≡ ok ds)) → (follow f m a q n bs .answer ≡ refused 21) × (follow f m a q n bs .frames ≡ frameTable n [])
   unfolding follow
-  others-21 none-are = let q = follow-21 (refused-21 bs none-are) in rw q (refl, refl)
+  others-21 none-are = let w = follow-21 (refused-21 bs none-are) in rw w (refl, refl)
 
 -- what was read has a name for each local but one of each record, where its tree is whole
 abbrev AllNamed : Content → Type 0
@@ -120,22 +120,22 @@ names-of f c m a q w l e i r h =
     let named = all l e (rw (pattern-rlens f (recordsOf c) (filesOf c)) at w) i r h in
     rw e at named
 
-module _ (f : List ℕ) (a : Allowance) (x : FilePasses f a) where
-  pub demand3 : (cs : List Choice) → Claim f a (x .content) cs
+module _ (f : List ℕ) (a : Allowance) (q : List ℕ) (x : FilePasses f a q) where
+  pub demand3 : (cs : List Choice) → Claim f a q (x .content) cs
   demand3 cs =
       let c = x .content in
       let p = patternOf f c in
-      let e0 = passes-iff p .1 (x .passes) in
-      let G = good-file p e0 in
+      let e0 = passes-iff q p .1 (x .passes) in
+      let G = good-file q p e0 in
       let s = run-stack p G cs in
       let n = pattern-length f (recordsOf c) (filesOf c) in
       record {
-        frames = stack-frames p G (run p cs) (length p) (le-refl (length p)) s;
+        frames = stack-frames q p G (permitting-file q p e0) (run p cs) (length p) (le-refl (length p)) s;
         falls = stack-falls p G (run p cs) (length p) s;
         few = omega (arith, stack-few p G (run p cs) (length p) s, n);
         names = names-of f c (x .tables) a (x .loads) (whole-iff (rlens p) .0 (G .tree));
-        follows = λ m n bs l h e. follow-holds f c e0 m a n bs l h cs e;
-        others = λ m n bs l h no-list. others-21 f c e0 m a n bs l h no-list;
+        follows = λ m n bs l h e. follow-holds f c q e0 m a n bs l h cs e;
+        others = λ m n bs l h no-list. others-21 f c q e0 m a n bs l h no-list;
       }
 
 -- what was read of a file is the same in all tables in which it loads under an allowance
@@ -143,10 +143,10 @@ pub loads-same : (f : List ℕ) (m m′ : Nine) (a : Allowance) (c c′ : Conten
 loads-same f m m′ a c c′ e e′ = sym (loading-reading f m a c e .0) ∙ loading-reading f m′ a c′ e′ .0
 
 -- so the whole claim is about what any tables hold in which a file that passes loads
-module _ (f : List ℕ) (a : Allowance) (x : FilePasses f a) (m : Nine) (c : Content) (e : loading f m a ≡ ok c) (cs : List Choice) where
-  pub claim-anywhere : Claim f a c cs
-  claim-anywhere = subst (λ (d : Content). Claim f a d cs) (loads-same f (x .tables) m a (x .content) c (x .loads) e) (demand3 f a x cs)
+module _ (f : List ℕ) (a : Allowance) (q : List ℕ) (x : FilePasses f a q) (m : Nine) (c : Content) (e : loading f m a ≡ ok c) (cs : List Choice) where
+  pub claim-anywhere : Claim f a q c cs
+  claim-anywhere = subst (λ (d : Content). Claim f a q d cs) (loads-same f (x .tables) m a (x .content) c (x .loads) e) (demand3 f a q x cs)
 
   -- and what it says of follow is about a call over any of them
-  pub follow-anywhere : (n : ℕ) (bs : List ℕ) → length (recordsOf c) ≤ n / 2 → choices bs ≡ ok cs → FollowHolds f c (run (patternOf f c) cs) m a n bs
-  follow-anywhere n bs h q = claim-anywhere .follows m n bs e h q
+  pub follow-anywhere : (n : ℕ) (bs : List ℕ) → length (recordsOf c) ≤ n / 2 → choices bs ≡ ok cs → FollowHolds f c (run (patternOf f c) cs) m a q n bs
+  follow-anywhere n bs h k = claim-anywhere .follows m n bs e h k

@@ -194,7 +194,7 @@ module _ (f : List ℕ) (a : Allowance) where
         (rite-iff f (omega arith) .1 (x .rite), x .sized)
 
   -- so does one that passes
-  pub passes-rite : FilePasses f a → (take 4 f ≡ riteIdent) × (statedSize f ≤ n)
+  pub passes-rite : {q : List ℕ} → FilePasses f a q → (take 4 f ≡ riteIdent) × (statedSize f ≤ n)
   passes-rite x = loaded-rite (x .tables) (x .content) (x .loads)
 
 -- Of two files that their tests accept under an allowance, with the same bytes behind their headers, one loads as the other does.

@@ -158,10 +158,10 @@ unfolding oneStep
 def-entered p f under i = rw (enter-def (recAt p (f .rec)) (f .at) i)
 
 -- "and the run guarantee": so in every frame of a run, by what demand 3 says of frames
-module _ {p : Pattern} {f : Frame} (h : FrameHolds p f) where
+module _ {q : List ℕ} {p : Pattern} {f : Frame} (h : FrameHolds q p f) where
   at-operand : {k : Kind} {xs : List Role} → Shaped (codeOf p f) (f .at) k xs → (i : ℕ) → i < length xs
       → Below (recAt p (f .rec)) (getD xs i plain) (arg (codeOf p f) (f .at) i)
-  at-operand s i l = let q = s .roles-are in rw q at (h .operands i) l
+  at-operand s i l = let e = s .roles-are in rw e at (h .operands i) l
 
   pub getidx0-frame : opcode (codeOf p f) (f .at) ≡ number GETIDX0 → arg (codeOf p f) (f .at) 1 < recAt p (f .rec) .nregs
   getidx0-frame e = at-operand (getidx0-shape (codeOf p f) (f .at) e) 1 (omega arith)

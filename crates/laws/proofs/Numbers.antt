@@ -34,7 +34,7 @@ abbrev pub loadNumbers : List ℕ
 loadNumbers = 14 ∷ readingNumbers
 
 abbrev pub conditionNumbers : List ℕ
-conditionNumbers = 15 ∷ 16 ∷ 17 ∷ 18 ∷ 19 ∷ 20 ∷ 25 ∷ []
+conditionNumbers = 15 ∷ 16 ∷ 17 ∷ 18 ∷ 19 ∷ 20 ∷ 25 ∷ 32 ∷ []
 
 abbrev pub examineNumbers : List ℕ
 examineNumbers = loadNumbers ++ conditionNumbers

@@ -153,18 +153,18 @@ rows-same f g m n a b c d x y e i h =
 abbrev pub recordAt : List ℕ → Content → List Choice → ℕ → ℕ
 recordAt f c cs i = getD (run (patternOf f c) cs) i (frame 0 0) .rec
 
--- a file that passes under an allowance, any tables in which it then loads, and every list of choices
-module _ (f : List ℕ) (a : Allowance) (x : FilePasses f a) (m : Nine) (c : Content) (loads : loading f m a ≡ ok c) (cs : List Choice) where
+-- a file that passes under an allowance and a list, any tables in which it then loads, and every list of choices
+module _ (f : List ℕ) (a : Allowance) (q : List ℕ) (x : FilePasses f a q) (m : Nine) (c : Content) (loads : loading f m a ≡ ok c) (cs : List Choice) where
   passed : GoodFile (patternOf f c)
   passed =
       let p = patternOf f (x .content) in
-      let good : GoodFile p = good-file p (passes-iff p .1 (x .passes)) in
+      let good : GoodFile p = good-file q p (passes-iff q p .1 (x .passes)) in
       subst (λ (d : Content). GoodFile (patternOf f d)) (loads-same f (x .tables) m a (x .content) c (x .loads) loads) good
 
   frame-node : (i : ℕ) → i < length (run (patternOf f c) cs) → nodeOf f m a (recordAt f c cs i) ≡ nodeAt (pattern.rlens (patternOf f c)) (recordAt f c cs i)
   frame-node i h =
       let n = pattern-length f (recordsOf c) (filesOf c) in
-      let inside = claim-anywhere f a x m c loads cs .frames i h .inside in
+      let inside = claim-anywhere f a q x m c loads cs .frames i h .inside in
       rw (pattern-rlens f (recordsOf c) (filesOf c)) (row-node f m a c loads (recordAt f c cs i) (omega arith))
 
   -- "step out to the pattern that contains it": from a frame that a child opcode entered to the frame below it, whose record is the parent of its own

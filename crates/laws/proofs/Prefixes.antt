@@ -46,8 +46,8 @@ pub handler-behind : (r : Record) (h q : ℕ) → h < clen r → Prefixed (r .co
 handler-behind r h q g p e = record { h = h; given = g; none-begins = rw (e, none-behind p) tt }
 
 -- and no frame of a run stands there
-pub frame-behind : {p : Pattern} {f : Frame} → FrameHolds p f → (q : ℕ) → Prefixed (codeOf p f) q → f .at ≡ q + 1 → ⊥
-frame-behind {p} {f} h q b e =
+pub frame-behind : {l : List ℕ} {p : Pattern} {f : Frame} → FrameHolds l p f → (q : ℕ) → Prefixed (codeOf p f) q → f .at ≡ q + 1 → ⊥
+frame-behind {l} {p} {f} h q b e =
     let c = codeOf p f in
     let t : T (begins c (f .at)) = begins-iff c (f .at) .1 (h .starts) in
     let n : begins c (f .at) ≡ false = rw e (none-behind b) in

@@ -1,5 +1,6 @@
--- Demand 1, under every allowance: a load refuses only by 1 to 14 and 27 to 29, an examination by 1 to 20, 25 and 27 to 29, follow by 1 to 21, 25 and 27
--- to 29, a lookup by 22 alone and fetch by 23 and 24 alone, so no refusal is 0; and after a refusal every lent table is zero throughout.
+-- Demand 1, under every allowance and every list of permitted opcodes: a load refuses only by 1 to 14 and 27 to 29, an examination by those, 15 to 20, 25
+-- and 32, follow by those and 21, a lookup by 22 alone and fetch by 23 and 24 alone, so no refusal is 0; and after a refusal every lent table is zero
+-- throughout.
 -- Assumes nothing.
 use Prim.Native.Nat.{ℕ, zero, suc, _+_, _/_}
 use native.Mathlib.Nat.{sub-zero}
@@ -19,7 +20,7 @@ use Rattle.format.specs.Load.{Nine, Words, tablesOf, used, fits, ending, loadin
 use Rattle.format.specs.Insn.{kind, known, row, width, fetchAs, fetch}
 use Rattle.format.specs.Lookup as look
 use Rattle.format.specs.Pattern.{Pattern, patternOf}
-use Rattle.format.specs.Exam.{Meets, meets15, meets16, meets17, meets18, meets19, meets20, meets25, examinePattern, passing, examining, examine}
+use Rattle.format.specs.Exam.{Meets, meets15, meets16, meets17, meets18, meets19, meets20, meets25, meets32, examinePattern, passing, examining, examine}
 use Rattle.format.specs.Run.{kind as due-kind, choices, following, Followed, follow, laidFrames, frameTable}
 use Rattle.format.proofs.Answers.{ok-refused, either, Refuses, NotZero, weaker, answered, tested, chained}
 use Rattle.runs.proofs.Refusal.{refusal-met}
@@ -63,14 +64,15 @@ laid-refuses m R (ok c) r = tt
 laid-refuses m R (refused e) r = r
 
 -- a condition's number
-meets-among : (p : Pattern) (n : ℕ) → Meets p n → Among conditionNumbers n
-meets-among p n (meets15 x) = tt
-meets-among p n (meets16 x) = tt
-meets-among p n (meets17 x) = tt
-meets-among p n (meets18 x) = tt
-meets-among p n (meets19 x) = tt
-meets-among p n (meets20 x) = tt
-meets-among p n (meets25 x) = tt
+meets-among : (q : List ℕ) (p : Pattern) (n : ℕ) → Meets q p n → Among conditionNumbers n
+meets-among q p n (meets15 x) = tt
+meets-among q p n (meets16 x) = tt
+meets-among q p n (meets17 x) = tt
+meets-among q p n (meets18 x) = tt
+meets-among q p n (meets19 x) = tt
+meets-among q p n (meets20 x) = tt
+meets-among q p n (meets25 x) = tt
+meets-among q p n (meets32 x) = tt
 
 module _ (f : List ℕ) where
   loading-refuses : (m : Nine) (a : Allowance) → Refuses (Among loadNumbers) (loading f m a)
@@ -80,82 +82,83 @@ module _ (f : List ℕ) where
       tested _ _ (fits 1024 m (used (tablesOf (p .it)))) _ 14 tt
       (λ _. answered _ _ (Refuses (Among loadNumbers)) (p .end) _ _ (reading-ends f (granted a)) (λ _ _. tt) (further readingNumbers loadNumbers tt))
 
-  pub passing-refuses : (c : Content) → Refuses (Among conditionNumbers) (passing f c)
+  pub passing-refuses : (q : List ℕ) (c : Content) → Refuses (Among conditionNumbers) (passing q f c)
   unfolding passing
-  passing-refuses c = go (examinePattern (patternOf f c)) refl
+  passing-refuses q c = go (examinePattern q (patternOf f c)) refl
     where
-      go : (k : ℕ) → examinePattern (patternOf f c) ≡ k → Refuses (Among conditionNumbers) (cond (eqb k 0) (ok c) (refused k))
+      go : (k : ℕ) → examinePattern q (patternOf f c) ≡ k → Refuses (Among conditionNumbers) (cond (eqb k 0) (ok c) (refused k))
       go zero e = tt
       go (suc k) e =
-          let q : eqb (suc k) 0 ≡ false = ne-eqb (suc k) 0 (λ (x : suc k ≡ 0). omega arith) in
-          rw q (meets-among (patternOf f c) (suc k) (refusal-met (patternOf f c) k e))
+          let w : eqb (suc k) 0 ≡ false = ne-eqb (suc k) 0 (λ (x : suc k ≡ 0). omega arith) in
+          rw w (meets-among q (patternOf f c) (suc k) (refusal-met q (patternOf f c) k e))
 
+  -- a load
   module _ (m : Nine) (a : Allowance) where
-    examining-refuses : Refuses (Among examineNumbers) (examining f m a)
+    pub load-number : (e : ℕ) → load f m a .answer ≡ refused e → Among loadNumbers e
+    unfolding load
+    load-number e r = subst (Refuses (Among loadNumbers)) r (laid-refuses m (Among loadNumbers) (loading f m a) (loading-refuses m a))
+
+    pub load-not-zero : NotZero (load f m a .answer)
+    load-not-zero e r = above-zero loadNumbers refl e (load-number e r)
+
+    pub load-zero : (e : ℕ) → load f m a .answer ≡ refused e → Zero m (load f m a .tables)
+    unfolding load
+    load-zero e r = laid-zero m e (loading f m a) r
+
+  module _ (m : Nine) (a : Allowance) (q : List ℕ) where
+    examining-refuses : Refuses (Among examineNumbers) (examining f m a q)
     unfolding examining
     examining-refuses =
-        chained _ _ _ (loading f m a) (passing f) (weaker _ _ _ (loading f m a) (loading-refuses m a) (further loadNumbers examineNumbers tt))
-        (λ c _. weaker _ _ _ (passing f c) (passing-refuses c) (further conditionNumbers examineNumbers tt))
+        chained _ _ _ (loading f m a) (passing q f) (weaker _ _ _ (loading f m a) (loading-refuses m a) (further loadNumbers examineNumbers tt))
+        (λ c _. weaker _ _ _ (passing q f c) (passing-refuses q c) (further conditionNumbers examineNumbers tt))
 
     -- follow, where its load is not refused
-    pub behind-refuses : (c : Content) → loading f m a ≡ ok c → (n : ℕ) (bs : List ℕ) → Refuses (Among (14 ∷ 21 ∷ conditionNumbers)) (following f m a n bs)
+    pub behind-refuses : (c : Content) → loading f m a ≡ ok c → (n : ℕ) (bs : List ℕ) → Refuses (Among (14 ∷ 21 ∷ conditionNumbers)) (following f m a q n bs)
     unfolding following
     behind-refuses c e n bs =
         let ns : List ℕ = 14 ∷ 21 ∷ conditionNumbers in
         rw e
         (tested _ _ (leb (length (recordsOf c)) (n / 2)) _ 14 tt (λ _.
-        chained _ _ _ (passing f c) _ (weaker _ _ _ (passing f c) (passing-refuses c) (further conditionNumbers ns tt)) (λ _ _.
+        chained _ _ _ (passing q f c) _ (weaker _ _ _ (passing q f c) (passing-refuses q c) (further conditionNumbers ns tt)) (λ _ _.
         chained _ _ _ (choices bs) _ (weaker _ _ _ (choices bs) (choices-21 bs due-kind) (λ e x. rw x tt)) (λ cs _. tt))))
 
-    following-refuses : (n : ℕ) (bs : List ℕ) → Refuses (Among followNumbers) (following f m a n bs)
+    following-refuses : (n : ℕ) (bs : List ℕ) → Refuses (Among followNumbers) (following f m a q n bs)
     unfolding following
     following-refuses n bs = by-load (loading f m a) refl
       where
-        by-load : (x : Answer Content) → loading f m a ≡ x → Refuses (Among followNumbers) (following f m a n bs)
-        by-load (ok c) e = weaker _ _ _ (following f m a n bs) (behind-refuses c e n bs) (further (14 ∷ 21 ∷ conditionNumbers) followNumbers tt)
+        by-load : (x : Answer Content) → loading f m a ≡ x → Refuses (Among followNumbers) (following f m a q n bs)
+        by-load (ok c) e = weaker _ _ _ (following f m a q n bs) (behind-refuses c e n bs) (further (14 ∷ 21 ∷ conditionNumbers) followNumbers tt)
         by-load (refused k) e = rw e (further loadNumbers followNumbers tt k (subst (Refuses (Among loadNumbers)) e (loading-refuses m a)))
 
-    -- a load
-    pub load-number : (e : ℕ) → load f m a .answer ≡ refused e → Among loadNumbers e
-    unfolding load
-    load-number e q = subst (Refuses (Among loadNumbers)) q (laid-refuses m (Among loadNumbers) (loading f m a) (loading-refuses m a))
-
-    pub load-not-zero : NotZero (load f m a .answer)
-    load-not-zero e q = above-zero loadNumbers refl e (load-number e q)
-
-    pub load-zero : (e : ℕ) → load f m a .answer ≡ refused e → Zero m (load f m a .tables)
-    unfolding load
-    load-zero e q = laid-zero m e (loading f m a) q
-
     -- an examination
-    pub examine-number : (e : ℕ) → examine f m a .answer ≡ refused e → Among examineNumbers e
+    pub examine-number : (e : ℕ) → examine f m a q .answer ≡ refused e → Among examineNumbers e
     unfolding examine
-    examine-number e q = subst (Refuses (Among examineNumbers)) q (laid-refuses m (Among examineNumbers) (examining f m a) examining-refuses)
+    examine-number e r = subst (Refuses (Among examineNumbers)) r (laid-refuses m (Among examineNumbers) (examining f m a q) examining-refuses)
 
-    pub examine-not-zero : NotZero (examine f m a .answer)
-    examine-not-zero e q = above-zero examineNumbers refl e (examine-number e q)
+    pub examine-not-zero : NotZero (examine f m a q .answer)
+    examine-not-zero e r = above-zero examineNumbers refl e (examine-number e r)
 
-    pub examine-zero : (e : ℕ) → examine f m a .answer ≡ refused e → Zero m (examine f m a .tables)
+    pub examine-zero : (e : ℕ) → examine f m a q .answer ≡ refused e → Zero m (examine f m a q .tables)
     unfolding examine
-    examine-zero e q = laid-zero m e (examining f m a) q
+    examine-zero e r = laid-zero m e (examining f m a q) r
 
     -- follow
-    pub follow-number : (n : ℕ) (bs : List ℕ) (e : ℕ) → follow f m a n bs .answer ≡ refused e → Among followNumbers e
+    pub follow-number : (n : ℕ) (bs : List ℕ) (e : ℕ) → follow f m a q n bs .answer ≡ refused e → Among followNumbers e
     unfolding follow
-    follow-number n bs e q =
+    follow-number n bs e r =
         let R : ℕ → Type 0 = Among followNumbers in
-        subst (Refuses R) q
-        (answered _ _ (λ (x : Followed). Refuses R (x .answer)) (following f m a n bs) _ _ (following-refuses n bs) (λ _ _. tt) (λ _ r. r))
+        subst (Refuses R) r
+        (answered _ _ (λ (x : Followed). Refuses R (x .answer)) (following f m a q n bs) _ _ (following-refuses n bs) (λ _ _. tt) (λ _ r. r))
 
-    pub follow-not-zero : (n : ℕ) (bs : List ℕ) → NotZero (follow f m a n bs .answer)
-    follow-not-zero n bs e q = above-zero followNumbers refl e (follow-number n bs e q)
+    pub follow-not-zero : (n : ℕ) (bs : List ℕ) → NotZero (follow f m a q n bs .answer)
+    follow-not-zero n bs e r = above-zero followNumbers refl e (follow-number n bs e r)
 
-    pub follow-zero : (n : ℕ) (bs : List ℕ) (e : ℕ) → follow f m a n bs .answer ≡ refused e
-        → Zero m (follow f m a n bs .tables) × (follow f m a n bs .frames ≡ replicate n 0)
+    pub follow-zero : (n : ℕ) (bs : List ℕ) (e : ℕ) → follow f m a q n bs .answer ≡ refused e
+        → Zero m (follow f m a q n bs .tables) × (follow f m a q n bs .frames ≡ replicate n 0)
     unfolding follow frameTable laidFrames
     follow-zero n bs e =
-        answered (λ _. Unit {0}) _ (λ (x : Followed). x .answer ≡ refused e → Zero m (x .tables) × (x .frames ≡ replicate n 0)) (following f m a n bs) _ _
-        (following-refuses n bs) (λ _ _ q. absurd (ok-refused (sym q))) (λ _ _ _. (zero-words m, rw sub-zero))
+        answered (λ _. Unit {0}) _ (λ (x : Followed). x .answer ≡ refused e → Zero m (x .tables) × (x .frames ≡ replicate n 0)) (following f m a q n bs) _ _
+        (following-refuses n bs) (λ _ _ r. absurd (ok-refused (sym r))) (λ _ _ _. (zero-words m, rw sub-zero))
 
 -- a lookup's one number
 abbrev Only22 : {A : Type 0} → Answer A → Type 0

@@ -98,7 +98,7 @@ module _ (r : Record) (o : ℕ) where
 
 -- "In a run of a passing file every register so named .. is below nregs": "R[a+1] of ADD, R[a+2] of SETIDX", the last of a call, and the b registers of
 -- ARRAY, by what demand 3 says of frames
-module _ {p : Pattern} {f : Frame} (h : FrameHolds p f) where
+module _ {q : List ℕ} {p : Pattern} {f : Frame} (h : FrameHolds q p f) where
   abbrev code : List ℕ
   code = codeOf p f
 

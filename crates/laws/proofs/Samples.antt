@@ -1,6 +1,6 @@
 -- Paper 01's starred samples, as one table of the definitions, with some that it does not star, those of ident and size as paper 02's g) has them,
--- constants as its d) reads them, parents as its a) has them, newer opcodes as its c) and prefixes as its b) do, all under the desktop's allowance, and
--- those of other allowances as its h) has them; and sample A as a file that passes.
+-- constants as its d) reads them, parents as its a) has them, newer opcodes as its c) and prefixes as its b) do, all under the desktop's allowance
+-- and with everything permitted, those of other allowances as its h) has them and of other lists as its n) does; and sample A as a file that passes.
 -- Assumes nothing.
 use Prim.Native.Nat.{ℕ, _*_, _/_, _%_}
 use mathlib.Core.Path.{_≡_, refl}
@@ -25,8 +25,9 @@ use Rattle.format.specs.Line.{halve, lineAt, rising}
 use Rattle.format.specs.Lookup.{recordWord, recordIn, rowIn, bytesIn, Constant, text, int, constantAt, constantOf, pool}
 use Rattle.format.specs.Tree.{layout, whole, span, childOf, noParent, nodesFrom}
 use Rattle.format.specs.Pattern.{Record, patternOf, reach, lands}
-use Rattle.format.specs.Exam.{FilePasses, stray, readable, below, allBelow, operandsBelow, rangeBelow, bounded, follows, firstAt, firstOf, exam16, exam1718, exam19, exam20}
-use Rattle.format.specs.Exam.{examineRecord, examineAll, examinePattern, passing, examining, examine}
+use Rattle.format.specs.Permitted.{permits, permittedAt, everything}
+use Rattle.format.specs.Exam.{FilePasses, stray, readable, below, allBelow, operandsBelow, rangeBelow, bounded, follows, firstAt, firstOf}
+use Rattle.format.specs.Exam.{exam16, exam32, exam1718, exam19, exam20, examineRecord, examineAll, examinePattern, passing, examining, examine}
 use Rattle.format.specs.Run.{Choice, frame, go-on, enter, caught, leave, childOperand, move, oneStep, runFrom, run, choicesFrom, choices, finished, stands}
 use Rattle.format.specs.Run.{standing, laidFrames, frameTable, following, follow}
 use Rattle.format.specs.Claim.{Claim}
@@ -122,7 +123,7 @@ record Table : Type 0 where
   a-three-zeros : load (fileA ++ replicate 3 0) twoRows desktop .answer ≡ ok (unvisited (lent 1))
   a-four-zeros : load (fileA ++ replicate 4 0) twoRows desktop .answer ≡ refused 5
   end-loads : load (endAlone 31 12) twoRows desktop .answer ≡ ok (unvisited (lent 0))
-  end-no-tree : examine (endAlone 31 12) twoRows desktop .answer ≡ refused 15
+  end-no-tree : examine (endAlone 31 12) twoRows desktop everything .answer ≡ refused 15
   end-of-size-0 : load (endAlone 31 0) twoRows desktop .answer ≡ refused 8
   end-of-31-bytes : load (take 31 (endAlone 31 12)) twoRows desktop .answer ≡ refused 4
   end-states-32 : load (take 31 (endAlone 32 12)) twoRows desktop .answer ≡ refused 28
@@ -140,7 +141,7 @@ record Table : Type 0 where
   m-not-reached : load (twoM 0) twoRows desktop .answer ≡ ok (visited 2 1)
   m-both-reached : load (twoM 300) twoRows desktop .answer ≡ ok (visited 2 301)
   m-no-records : load noneM twoRows desktop .answer ≡ ok (visited 0 1)
-  m-passes : examine (twoM 1) twoRows desktop .answer ≡ ok (visited 2 2)
+  m-passes : examine (twoM 1) twoRows desktop everything .answer ≡ ok (visited 2 2)
   parent-none : nodeIn (twoM 1) 0 ≡ 0 ∷ noParent ∷ []
   parent-whole : nodeIn (twoM 1) 1 ≡ 1 ∷ 0 ∷ []
   parent-not-whole : nodeIn (twoM 300) 1 ≡ 1 ∷ 0 ∷ []
@@ -167,10 +168,10 @@ record Table : Type 0 where
   allowed-behind-header : load (set fileA 27 40) twoRows (allowance 64 1) .answer ≡ refused 7
   allowed-before-content : load (set fileA 47 255) twoRows (allowance 64 0) .answer ≡ refused 29
   allowed-content : load (set fileA 47 255) twoRows (allowance 64 1) .answer ≡ refused 7
-  allowed-passes : examine fileA twoRows (allowance 64 1) .answer ≡ ok (unvisited (lent 1))
-  allowed-not-examined : examine fileA twoRows (allowance 64 0) .answer ≡ refused 29
-  allowed-goes-on : follow fileA twoRows (allowance 64 1) 2 (0 ∷ []) .answer ≡ ok (stands (frame 0 2) none 1)
-  allowed-not-followed : follow fileA twoRows (allowance 63 1) 1 (5 ∷ []) .answer ≡ refused 29
+  allowed-passes : examine fileA twoRows (allowance 64 1) everything .answer ≡ ok (unvisited (lent 1))
+  allowed-not-examined : examine fileA twoRows (allowance 64 0) everything .answer ≡ refused 29
+  allowed-goes-on : follow fileA twoRows (allowance 64 1) everything 2 (0 ∷ []) .answer ≡ ok (stands (frame 0 2) none 1)
+  allowed-not-followed : follow fileA twoRows (allowance 63 1) everything 1 (5 ∷ []) .answer ≡ refused 29
   d-loads : load fileD (lentPool recordWidth 6) desktop .answer ≡ ok (unvisited (lentPool 1 2))
   d-rows : load fileD (lentPool recordWidth 6) desktop .tables .pool ≡ 3 ∷ 55 ∷ 8 ∷ 0 ∷ 66 ∷ 3 ∷ []
   d-int64 : constantD 0 ≡ ok (int (pos 258))
@@ -182,78 +183,89 @@ record Table : Type 0 where
   int64-low-byte-first : int64At (2 ∷ 1 ∷ 0 ∷ 0 ∷ 0 ∷ 0 ∷ 0 ∷ 0 ∷ []) 0 ≡ pos 144396663052566528
   int64-below-0 : int64At (255 ∷ 255 ∷ 255 ∷ 255 ∷ 255 ∷ 255 ∷ 255 ∷ 254 ∷ []) 0 ≡ negsuc 1
   int64-lowest : int64At (128 ∷ 0 ∷ 0 ∷ 0 ∷ 0 ∷ 0 ∷ 0 ∷ 0 ∷ []) 0 ≡ negsuc 9223372036854775807
-  getidx0-last : examinePattern (family (36 ∷ 0 ∷ 2 ∷ [])) ≡ 0
-  getidx0-high : examinePattern (family (36 ∷ 0 ∷ 3 ∷ [])) ≡ 17
-  ssend0-last : examinePattern (family (48 ∷ 0 ∷ 0 ∷ [])) ≡ 0
-  ssend0-high : examinePattern (family (48 ∷ 0 ∷ 1 ∷ [])) ≡ 17
-  send0-last : examinePattern (family (51 ∷ 0 ∷ 0 ∷ [])) ≡ 0
-  send0-high : examinePattern (family (51 ∷ 0 ∷ 1 ∷ [])) ≡ 17
-  tdef-last : examinePattern (family (107 ∷ 0 ∷ 0 ∷ 1 ∷ [])) ≡ 0
-  tdef-symbol-high : examinePattern (family (107 ∷ 0 ∷ 1 ∷ 1 ∷ [])) ≡ 17
-  tdef-child-high : examinePattern (family (107 ∷ 0 ∷ 0 ∷ 2 ∷ [])) ≡ 17
-  sdef-child-high : examinePattern (family (108 ∷ 0 ∷ 0 ∷ 2 ∷ [])) ≡ 17
-  blkcall-any : examinePattern (family (54 ∷ 0 ∷ 255 ∷ [])) ≡ 0
-  addilv-any : examinePattern (family (73 ∷ 0 ∷ 255 ∷ 255 ∷ [])) ≡ 0
+  getidx0-last : examinePattern everything (family (36 ∷ 0 ∷ 2 ∷ [])) ≡ 0
+  getidx0-high : examinePattern everything (family (36 ∷ 0 ∷ 3 ∷ [])) ≡ 17
+  ssend0-last : examinePattern everything (family (48 ∷ 0 ∷ 0 ∷ [])) ≡ 0
+  ssend0-high : examinePattern everything (family (48 ∷ 0 ∷ 1 ∷ [])) ≡ 17
+  send0-last : examinePattern everything (family (51 ∷ 0 ∷ 0 ∷ [])) ≡ 0
+  send0-high : examinePattern everything (family (51 ∷ 0 ∷ 1 ∷ [])) ≡ 17
+  tdef-last : examinePattern everything (family (107 ∷ 0 ∷ 0 ∷ 1 ∷ [])) ≡ 0
+  tdef-symbol-high : examinePattern everything (family (107 ∷ 0 ∷ 1 ∷ 1 ∷ [])) ≡ 17
+  tdef-child-high : examinePattern everything (family (107 ∷ 0 ∷ 0 ∷ 2 ∷ [])) ≡ 17
+  sdef-child-high : examinePattern everything (family (108 ∷ 0 ∷ 0 ∷ 2 ∷ [])) ≡ 17
+  blkcall-any : examinePattern everything (family (54 ∷ 0 ∷ 255 ∷ [])) ≡ 0
+  addilv-any : examinePattern everything (family (73 ∷ 0 ∷ 255 ∷ 255 ∷ [])) ≡ 0
   tdef-enters : run (family (107 ∷ 0 ∷ 0 ∷ 1 ∷ [])) (enter ∷ []) ≡ frame 2 0 ∷ frame 0 4 ∷ []
   sdef-enters : run (family (108 ∷ 0 ∷ 0 ∷ 0 ∷ [])) (enter ∷ []) ≡ frame 1 0 ∷ frame 0 4 ∷ []
-  ext1-last : examinePattern (oval (115 ∷ 17 ∷ 1 ∷ 43 ∷ [])) ≡ 0
-  ext1-high : examinePattern (oval (115 ∷ 17 ∷ 1 ∷ 44 ∷ [])) ≡ 17
-  ext2-last : examinePattern (oval (116 ∷ 2 ∷ 0 ∷ 1 ∷ 43 ∷ [])) ≡ 0
-  ext2-high : examinePattern (oval (116 ∷ 2 ∷ 0 ∷ 1 ∷ 44 ∷ [])) ≡ 17
-  ext2-low-byte-first : examinePattern (oval (116 ∷ 2 ∷ 0 ∷ 43 ∷ 1 ∷ [])) ≡ 17
-  ext3-last : examinePattern (oval (117 ∷ 2 ∷ 1 ∷ 43 ∷ 1 ∷ 43 ∷ [])) ≡ 0
-  ext3-third-a-byte : examinePattern (oval (117 ∷ 47 ∷ 1 ∷ 36 ∷ 1 ∷ 43 ∷ 7 ∷ [])) ≡ 0
-  ext2-keeps-bs : examinePattern (oval (116 ∷ 39 ∷ 0 ∷ 0 ∷ 0 ∷ [])) ≡ 0
-  ext2-keeps-s : examinePattern (oval (116 ∷ 38 ∷ 0 ∷ 0 ∷ [])) ≡ 0
-  ext1-keeps-z : examinePattern (oval (115 ∷ 0 ∷ [])) ≡ 0
-  ext-last-in-record : examinePattern (alone (115 ∷ [])) ≡ 25
-  ext-twice : examinePattern (oval (115 ∷ 116 ∷ 0 ∷ [])) ≡ 25
-  ext-unknown : examinePattern (oval (115 ∷ 119 ∷ [])) ≡ 16
-  ext-cut : examinePattern (alone (115 ∷ 17 ∷ 0 ∷ [])) ≡ 16
-  ext-before-unknown : examinePattern (oval (115 ∷ 115 ∷ 119 ∷ [])) ≡ 25
-  ext-behind-unknown : examinePattern (oval (119 ∷ 115 ∷ 115 ∷ [])) ≡ 16
-  ext-behind-high : examinePattern (oval (115 ∷ 17 ∷ 1 ∷ 44 ∷ 115 ∷ 115 ∷ [])) ≡ 25
-  ext-jumped-to : examinePattern (oval (38 ∷ 0 ∷ 0 ∷ 115 ∷ 0 ∷ [])) ≡ 0
-  ext-jumped-behind : examinePattern (oval (38 ∷ 0 ∷ 1 ∷ 115 ∷ 0 ∷ [])) ≡ 18
-  ext-jumps-to-itself : examinePattern (alone (115 ∷ 38 ∷ 255 ∷ 252 ∷ [])) ≡ 0
-  ext-jumps-behind-itself : examinePattern (alone (115 ∷ 38 ∷ 255 ∷ 253 ∷ [])) ≡ 18
+  ext1-last : examinePattern everything (oval (115 ∷ 17 ∷ 1 ∷ 43 ∷ [])) ≡ 0
+  ext1-high : examinePattern everything (oval (115 ∷ 17 ∷ 1 ∷ 44 ∷ [])) ≡ 17
+  ext2-last : examinePattern everything (oval (116 ∷ 2 ∷ 0 ∷ 1 ∷ 43 ∷ [])) ≡ 0
+  ext2-high : examinePattern everything (oval (116 ∷ 2 ∷ 0 ∷ 1 ∷ 44 ∷ [])) ≡ 17
+  ext2-low-byte-first : examinePattern everything (oval (116 ∷ 2 ∷ 0 ∷ 43 ∷ 1 ∷ [])) ≡ 17
+  ext3-last : examinePattern everything (oval (117 ∷ 2 ∷ 1 ∷ 43 ∷ 1 ∷ 43 ∷ [])) ≡ 0
+  ext3-third-a-byte : examinePattern everything (oval (117 ∷ 47 ∷ 1 ∷ 36 ∷ 1 ∷ 43 ∷ 7 ∷ [])) ≡ 0
+  ext2-keeps-bs : examinePattern everything (oval (116 ∷ 39 ∷ 0 ∷ 0 ∷ 0 ∷ [])) ≡ 0
+  ext2-keeps-s : examinePattern everything (oval (116 ∷ 38 ∷ 0 ∷ 0 ∷ [])) ≡ 0
+  ext1-keeps-z : examinePattern everything (oval (115 ∷ 0 ∷ [])) ≡ 0
+  ext-last-in-record : examinePattern everything (alone (115 ∷ [])) ≡ 25
+  ext-twice : examinePattern everything (oval (115 ∷ 116 ∷ 0 ∷ [])) ≡ 25
+  ext-unknown : examinePattern everything (oval (115 ∷ 119 ∷ [])) ≡ 16
+  ext-cut : examinePattern everything (alone (115 ∷ 17 ∷ 0 ∷ [])) ≡ 16
+  ext-before-unknown : examinePattern everything (oval (115 ∷ 115 ∷ 119 ∷ [])) ≡ 25
+  ext-behind-unknown : examinePattern everything (oval (119 ∷ 115 ∷ 115 ∷ [])) ≡ 16
+  ext-behind-high : examinePattern everything (oval (115 ∷ 17 ∷ 1 ∷ 44 ∷ 115 ∷ 115 ∷ [])) ≡ 25
+  ext-jumped-to : examinePattern everything (oval (38 ∷ 0 ∷ 0 ∷ 115 ∷ 0 ∷ [])) ≡ 0
+  ext-jumped-behind : examinePattern everything (oval (38 ∷ 0 ∷ 1 ∷ 115 ∷ 0 ∷ [])) ≡ 18
+  ext-jumps-to-itself : examinePattern everything (alone (115 ∷ 38 ∷ 255 ∷ 252 ∷ [])) ≡ 0
+  ext-jumps-behind-itself : examinePattern everything (alone (115 ∷ 38 ∷ 255 ∷ 253 ∷ [])) ≡ 18
   ext-goes-on : run (oval (115 ∷ 17 ∷ 1 ∷ 43 ∷ [])) (go-on ∷ []) ≡ frame 0 4 ∷ []
   ext2-enters : run (family (116 ∷ 98 ∷ 0 ∷ 0 ∷ 1 ∷ [])) (enter ∷ []) ≡ frame 2 0 ∷ frame 0 5 ∷ []
   ext3-third-enters : run (family (117 ∷ 107 ∷ 0 ∷ 0 ∷ 0 ∷ 0 ∷ 1 ∷ [])) (enter ∷ []) ≡ frame 2 0 ∷ frame 0 7 ∷ []
   ext-fetches-alone : fetch (115 ∷ 17 ∷ 1 ∷ 43 ∷ []) ≡ ok (insn Z [])
-  add-last : examinePattern (family (69 ∷ 1 ∷ [])) ≡ 0
-  add-high : examinePattern (family (69 ∷ 2 ∷ [])) ≡ 17
-  setidx-last : examinePattern (family (37 ∷ 0 ∷ [])) ≡ 0
-  setidx-high : examinePattern (family (37 ∷ 1 ∷ [])) ≡ 17
-  send-none : examinePattern (family (50 ∷ 2 ∷ 0 ∷ 0 ∷ [])) ≡ 0
-  send-two : examinePattern (family (50 ∷ 0 ∷ 0 ∷ 2 ∷ [])) ≡ 0
-  send-two-high : examinePattern (family (50 ∷ 1 ∷ 0 ∷ 2 ∷ [])) ≡ 17
-  send-pair : examinePattern (family (50 ∷ 0 ∷ 0 ∷ 16 ∷ [])) ≡ 0
-  send-pair-high : examinePattern (family (50 ∷ 1 ∷ 0 ∷ 16 ∷ [])) ≡ 17
-  send-fifteen : examinePattern (family (50 ∷ 1 ∷ 0 ∷ 15 ∷ [])) ≡ 0
-  send-both-fifteen : examinePattern (family (50 ∷ 0 ∷ 0 ∷ 255 ∷ [])) ≡ 0
-  send-both-high : examinePattern (family (50 ∷ 1 ∷ 0 ∷ 255 ∷ [])) ≡ 17
-  sendb-last : examinePattern (family (52 ∷ 1 ∷ 0 ∷ 0 ∷ [])) ≡ 0
-  sendb-high : examinePattern (family (52 ∷ 2 ∷ 0 ∷ 0 ∷ [])) ≡ 17
-  super-last : examinePattern (family (55 ∷ 1 ∷ 0 ∷ [])) ≡ 0
-  super-high : examinePattern (family (55 ∷ 2 ∷ 0 ∷ [])) ≡ 17
-  array-last : examinePattern (family (82 ∷ 1 ∷ 2 ∷ [])) ≡ 0
-  array-high : examinePattern (family (82 ∷ 2 ∷ 2 ∷ [])) ≡ 17
-  array-none : examinePattern (family (82 ∷ 2 ∷ 0 ∷ [])) ≡ 0
-  array2-last : examinePattern (family (83 ∷ 0 ∷ 1 ∷ 2 ∷ [])) ≡ 0
-  array2-high : examinePattern (family (83 ∷ 0 ∷ 2 ∷ 2 ∷ [])) ≡ 17
-  array2-none-high : examinePattern (family (83 ∷ 0 ∷ 3 ∷ 0 ∷ [])) ≡ 17
-  arypush-last : examinePattern (family (85 ∷ 1 ∷ 1 ∷ [])) ≡ 0
-  arypush-high : examinePattern (family (85 ∷ 1 ∷ 2 ∷ [])) ≡ 17
-  apost-last : examinePattern (family (89 ∷ 1 ∷ 9 ∷ 1 ∷ [])) ≡ 0
-  apost-high : examinePattern (family (89 ∷ 1 ∷ 9 ∷ 2 ∷ [])) ≡ 17
-  hash-none : examinePattern (family (94 ∷ 0 ∷ 0 ∷ [])) ≡ 0
-  hash-last : examinePattern (family (94 ∷ 1 ∷ 1 ∷ [])) ≡ 0
-  hash-high : examinePattern (family (94 ∷ 2 ∷ 1 ∷ [])) ≡ 17
-  hashadd-last : examinePattern (family (95 ∷ 0 ∷ 1 ∷ [])) ≡ 0
-  hashadd-high : examinePattern (family (95 ∷ 1 ∷ 1 ∷ [])) ≡ 17
-  super-wide : examinePattern (oval (117 ∷ 55 ∷ 1 ∷ 42 ∷ 1 ∷ 0 ∷ [])) ≡ 0
-  hashadd-wide : examinePattern (oval (117 ∷ 95 ∷ 0 ∷ 0 ∷ 255 ∷ 255 ∷ [])) ≡ 17
+  add-last : examinePattern everything (family (69 ∷ 1 ∷ [])) ≡ 0
+  add-high : examinePattern everything (family (69 ∷ 2 ∷ [])) ≡ 17
+  setidx-last : examinePattern everything (family (37 ∷ 0 ∷ [])) ≡ 0
+  setidx-high : examinePattern everything (family (37 ∷ 1 ∷ [])) ≡ 17
+  send-none : examinePattern everything (family (50 ∷ 2 ∷ 0 ∷ 0 ∷ [])) ≡ 0
+  send-two : examinePattern everything (family (50 ∷ 0 ∷ 0 ∷ 2 ∷ [])) ≡ 0
+  send-two-high : examinePattern everything (family (50 ∷ 1 ∷ 0 ∷ 2 ∷ [])) ≡ 17
+  send-pair : examinePattern everything (family (50 ∷ 0 ∷ 0 ∷ 16 ∷ [])) ≡ 0
+  send-pair-high : examinePattern everything (family (50 ∷ 1 ∷ 0 ∷ 16 ∷ [])) ≡ 17
+  send-fifteen : examinePattern everything (family (50 ∷ 1 ∷ 0 ∷ 15 ∷ [])) ≡ 0
+  send-both-fifteen : examinePattern everything (family (50 ∷ 0 ∷ 0 ∷ 255 ∷ [])) ≡ 0
+  send-both-high : examinePattern everything (family (50 ∷ 1 ∷ 0 ∷ 255 ∷ [])) ≡ 17
+  sendb-last : examinePattern everything (family (52 ∷ 1 ∷ 0 ∷ 0 ∷ [])) ≡ 0
+  sendb-high : examinePattern everything (family (52 ∷ 2 ∷ 0 ∷ 0 ∷ [])) ≡ 17
+  super-last : examinePattern everything (family (55 ∷ 1 ∷ 0 ∷ [])) ≡ 0
+  super-high : examinePattern everything (family (55 ∷ 2 ∷ 0 ∷ [])) ≡ 17
+  array-last : examinePattern everything (family (82 ∷ 1 ∷ 2 ∷ [])) ≡ 0
+  array-high : examinePattern everything (family (82 ∷ 2 ∷ 2 ∷ [])) ≡ 17
+  array-none : examinePattern everything (family (82 ∷ 2 ∷ 0 ∷ [])) ≡ 0
+  array2-last : examinePattern everything (family (83 ∷ 0 ∷ 1 ∷ 2 ∷ [])) ≡ 0
+  array2-high : examinePattern everything (family (83 ∷ 0 ∷ 2 ∷ 2 ∷ [])) ≡ 17
+  array2-none-high : examinePattern everything (family (83 ∷ 0 ∷ 3 ∷ 0 ∷ [])) ≡ 17
+  arypush-last : examinePattern everything (family (85 ∷ 1 ∷ 1 ∷ [])) ≡ 0
+  arypush-high : examinePattern everything (family (85 ∷ 1 ∷ 2 ∷ [])) ≡ 17
+  apost-last : examinePattern everything (family (89 ∷ 1 ∷ 9 ∷ 1 ∷ [])) ≡ 0
+  apost-high : examinePattern everything (family (89 ∷ 1 ∷ 9 ∷ 2 ∷ [])) ≡ 17
+  hash-none : examinePattern everything (family (94 ∷ 0 ∷ 0 ∷ [])) ≡ 0
+  hash-last : examinePattern everything (family (94 ∷ 1 ∷ 1 ∷ [])) ≡ 0
+  hash-high : examinePattern everything (family (94 ∷ 2 ∷ 1 ∷ [])) ≡ 17
+  hashadd-last : examinePattern everything (family (95 ∷ 0 ∷ 1 ∷ [])) ≡ 0
+  hashadd-high : examinePattern everything (family (95 ∷ 1 ∷ 1 ∷ [])) ≡ 17
+  super-wide : examinePattern everything (oval (117 ∷ 55 ∷ 1 ∷ 42 ∷ 1 ∷ 0 ∷ [])) ≡ 0
+  hashadd-wide : examinePattern everything (oval (117 ∷ 95 ∷ 0 ∷ 0 ∷ 255 ∷ 255 ∷ [])) ≡ 17
+  permitted-none : examine fileA twoRows desktop [] .answer ≡ refused 32
+  permitted-none-followed : follow fileA twoRows desktop [] 2 (5 ∷ []) .answer ≡ refused 32
+  permitted-its-two : examine fileA twoRows desktop (set (set (replicate 62 0) 17 255) 61 2) .answer ≡ ok (unvisited (lent 1))
+  permitted-no-return : examine fileA twoRows desktop (set everything 61 0) .answer ≡ refused 32
+  permitted-not-above : permits (everything ++ 1 ∷ []) 119 ≡ false
+  permitted-no-prefix : examinePattern (set everything 115 0) (oval (115 ∷ 17 ∷ 1 ∷ 43 ∷ [])) ≡ 32
+  permitted-prefix-alone : examinePattern (set everything 17 0) (oval (115 ∷ 17 ∷ 1 ∷ 43 ∷ [])) ≡ 32
+  permitted-unreached : examinePattern (set everything 61 0) (alone (38 ∷ 255 ∷ 253 ∷ 61 ∷ 0 ∷ [])) ≡ 32
+  permitted-behind-high : examinePattern (set everything 61 0) (family (69 ∷ 2 ∷ [])) ≡ 32
+  permitted-next-record : examineAll (set everything 61 0) (alone (17 ∷ 2 ∷ 118 ∷ []) ++ alone (61 ∷ 0 ∷ [])) ≡ 17
+  permitted-unknown : examinePattern [] (alone (119 ∷ [])) ≡ 16
   packed-two : packed (129 ∷ 1 ∷ []) 0 ≡ ok (step 129 2)
   packed-most : packed (255 ∷ 255 ∷ 255 ∷ 255 ∷ 15 ∷ []) 0 ≡ ok (step 4294967295 5)
   packed-dropped : packed (255 ∷ 255 ∷ 255 ∷ 255 ∷ 127 ∷ []) 0 ≡ ok (step 4294967295 5)
@@ -265,19 +277,19 @@ record Table : Type 0 where
   wide : fetch (57 ∷ 1 ∷ 2 ∷ 3 ∷ []) ≡ ok (insn W (66051 ∷ []))
   jumps-back : fetch (38 ∷ 255 ∷ 253 ∷ []) ≡ ok (insn S (65533 ∷ []))
   jumps-to-itself : target (38 ∷ 255 ∷ 253 ∷ []) 0 ≡ 0
-  itself-passes : examinePattern (alone (38 ∷ 255 ∷ 253 ∷ [])) ≡ 0
-  before-the-start : examinePattern (alone (38 ∷ 255 ∷ 252 ∷ [])) ≡ 18
+  itself-passes : examinePattern everything (alone (38 ∷ 255 ∷ 253 ∷ [])) ≡ 0
+  before-the-start : examinePattern everything (alone (38 ∷ 255 ∷ 252 ∷ [])) ≡ 18
   whole-tree : whole (2 ∷ 0 ∷ 0 ∷ []) ≡ true
   no-tree : whole (0 ∷ 1 ∷ []) ≡ false
-  no-records : examinePattern [] ≡ 15
+  no-records : examinePattern everything [] ≡ 15
   a-content : loading fileA twoRows desktop ≡ ok (fileReading fileA desktop .it)
-  a-meets-none : examinePattern (patternOf fileA (fileReading fileA desktop .it)) ≡ 0
-  a-passes : examine fileA twoRows desktop .answer ≡ ok (unvisited (lent 1))
-  a-goes-on : follow fileA twoRows desktop 2 (0 ∷ []) .answer ≡ ok (stands (frame 0 2) none 1)
-  a-frames : follow fileA twoRows desktop 5 (0 ∷ []) .frames ≡ 0 ∷ 2 ∷ 0 ∷ 0 ∷ 0 ∷ []
-  a-finishes : follow fileA twoRows desktop 2 (0 ∷ 0 ∷ []) .answer ≡ ok finished
-  a-choices : follow fileA twoRows desktop 2 (0 ∷ 5 ∷ []) .answer ≡ refused 21
-  a-short : follow fileA twoRows desktop 1 (0 ∷ 5 ∷ []) .answer ≡ refused 14
+  a-meets-none : examinePattern everything (patternOf fileA (fileReading fileA desktop .it)) ≡ 0
+  a-passes : examine fileA twoRows desktop everything .answer ≡ ok (unvisited (lent 1))
+  a-goes-on : follow fileA twoRows desktop everything 2 (0 ∷ []) .answer ≡ ok (stands (frame 0 2) none 1)
+  a-frames : follow fileA twoRows desktop everything 5 (0 ∷ []) .frames ≡ 0 ∷ 2 ∷ 0 ∷ 0 ∷ 0 ∷ []
+  a-finishes : follow fileA twoRows desktop everything 2 (0 ∷ 0 ∷ []) .answer ≡ ok finished
+  a-choices : follow fileA twoRows desktop everything 2 (0 ∷ 5 ∷ []) .answer ≡ refused 21
+  a-short : follow fileA twoRows desktop everything 1 (0 ∷ 5 ∷ []) .answer ≡ refused 14
   list : choices (0 ∷ 3 ∷ 1 ∷ 2 ∷ 4 ∷ []) ≡ ok (go-on ∷ caught 258 ∷ leave ∷ [])
   above : choices (5 ∷ []) ≡ refused 21
   cut : choices (3 ∷ 1 ∷ []) ≡ refused 21
@@ -287,8 +299,9 @@ unfolding table row operands opcode rest lastOf jump target fetchAs fetch packed
     poolEntry counted headAt bodyAt recordAt recordsFrom irepSection walk visits noZero plainText nameEntry recordNames lvarSection fileHead mapEntry
     mapLines filesFrom debugRecord debugContent debugSection packedEntry endSection sectionAt sections fileRefusal fileReading fits ending loadingWithin load sized
     endAlone lent twoRows nodeIn unvisited alone family oval fileD lentPool constantD fileM twoM noneM visited zeroInside recordIn rowIn bytesIn constantAt constantOf pool
-    rising layout span childOf nodesFrom reach lands stray readable below allBelow operandsBelow rangeBelow bounded comments form follows firstAt firstOf exam16 exam1718 exam19 exam20 examineRecord
-    examineAll examinePattern passing examining examine childOperand move oneStep runFrom choicesFrom standing laidFrames frameTable following follow
+    rising layout span childOf nodesFrom reach lands stray readable below allBelow operandsBelow rangeBelow bounded comments form follows firstAt firstOf permits permittedAt
+    exam16 exam32 exam1718 exam19 exam20 examineRecord examineAll examinePattern passing examining examine childOperand move oneStep runFrom choicesFrom standing
+    laidFrames frameTable following follow
 samples = record {
   a-loads = refl;
   a-row = refl;
@@ -427,6 +440,17 @@ samples = record {
   hashadd-high = refl;
   super-wide = refl;
   hashadd-wide = refl;
+  permitted-none = refl;
+  permitted-none-followed = refl;
+  permitted-its-two = refl;
+  permitted-no-return = refl;
+  permitted-not-above = refl;
+  permitted-no-prefix = refl;
+  permitted-prefix-alone = refl;
+  permitted-unreached = refl;
+  permitted-behind-high = refl;
+  permitted-next-record = refl;
+  permitted-unknown = refl;
   packed-two = refl;
   packed-most = refl;
   packed-dropped = refl;
@@ -457,10 +481,10 @@ samples = record {
 }
 
 -- A is a file that passes, so demand 3 is a claim about some file: this one
-pub a-file : FilePasses fileA desktop
+pub a-file : FilePasses fileA desktop everything
 a-file =
     let c = fileReading fileA desktop .it in
-    record { tables = twoRows; content = c; loads = samples .a-content; passes = passes-iff (patternOf fileA c) .0 (samples .a-meets-none) }
+    record { tables = twoRows; content = c; loads = samples .a-content; passes = passes-iff everything (patternOf fileA c) .0 (samples .a-meets-none) }
 
-pub a-claim : (cs : List Choice) → Claim fileA desktop (a-file .content) cs
-a-claim cs = demand3 fileA desktop a-file cs
+pub a-claim : (cs : List Choice) → Claim fileA desktop everything (a-file .content) cs
+a-claim cs = demand3 fileA desktop everything a-file cs

@@ -94,26 +94,26 @@ unfoldable pub load : List ℕ → Nine → Loaded
 load f m = laid m (loading f m)
 
 -- "Examination loads the file first."
-unfoldable pub examining : List ℕ → Nine → Answer Content
-examining f m = bind (loading f m) (passing f)
+unfoldable pub examining : List ℕ → Nine → List ℕ → Answer Content
+examining f m q = bind (loading f m) (passing q f)
 
 -- what an examination answers, and what the tables hold afterwards: the rows used, as load does
-unfoldable pub examine : List ℕ → Nine → Loaded
-examine f m = laid m (examining f m)
+unfoldable pub examine : List ℕ → Nine → List ℕ → Loaded
+examine f m q = laid m (examining f m q)
 
 -- "Follow loads, tests its frame table, examines, reads the whole choice list for 21, then runs": over a frame table of n words.
 -- "14: .. follow's frame table has fewer rows than the file has records, tested after loading"
-unfoldable pub following : List ℕ → Nine → ℕ → List ℕ → Answer Ran
-following f m n bs =
+unfoldable pub following : List ℕ → Nine → List ℕ → ℕ → List ℕ → Answer Ran
+following f m q n bs =
     bind (loading f m) (λ c.
     cond (leb (length (recordsOf c)) (n / 2))
-    (bind (passing f c) (λ _. bind (choices bs) (λ cs. ok (record { content = c; frames = run (patternOf f c) cs }))))
+    (bind (passing q f c) (λ _. bind (choices bs) (λ cs. ok (record { content = c; frames = run (patternOf f c) cs }))))
     (refused 14))
 
 -- what follow answers, and what the nine tables and the frame table hold afterwards: after a refusal zeros alone
-unfoldable pub follow : List ℕ → Nine → ℕ → List ℕ → Followed
-follow f m n bs =
-    onAnswer (following f m n bs)
+unfoldable pub follow : List ℕ → Nine → List ℕ → ℕ → List ℕ → Followed
+follow f m q n bs =
+    onAnswer (following f m q n bs)
     (λ r.
     record {
       answer = ok (standing (patternOf f (r .content)) (r .frames));

@@ -1,5 +1,5 @@
--- Request b): a pattern in which no prefix begins an instruction is judged as by paper 01's reading, where an instruction's first byte is its opcode;
--- so what passes by that passes.
+-- Request b): a pattern in which no prefix begins an instruction is judged as by paper 01's reading, where an instruction's first byte is its opcode,
+-- by every list of permitted opcodes; so what passes by that passes.
 -- Assumes nothing.
 use Prim.Native.Nat.{ℕ, zero, suc, _+_, _-_, _<_, suc-le-suc}
 use native.Mathlib.Nat.{add-zero, add-suc, suc-add, zero-add, le-of-suc-le-suc}
@@ -17,8 +17,9 @@ use Rattle.format.specs.Registers.{registersOf}
 use Rattle.format.specs.Line.{rising}
 use Rattle.format.specs.Tree.{whole}
 use Rattle.format.specs.Pattern.{Record, Pattern, patternOf, recAt, blank, rlens, reach, begins, lands}
-use Rattle.format.specs.Exam.{stray, readable, allBelow, operandsBelow, rangeBelow, bounded, leads, follows, firstAt, firstOf, at16, at1718}
-use Rattle.format.specs.Exam.{exam16, exam1718, exam19, exam20, examineRecord, examineAll, examinePattern, passing}
+use Rattle.format.specs.Permitted.{permits, permittedAt}
+use Rattle.format.specs.Exam.{stray, readable, allBelow, operandsBelow, rangeBelow, bounded, leads, follows, firstAt, firstOf, at16, at32, at1718}
+use Rattle.format.specs.Exam.{exam16, exam32, exam1718, exam19, exam20, examineRecord, examineAll, examinePattern, passing}
 use Rattle.format.proofs.Answers.{first-zero, refuse-zero}
 use Rattle.format.proofs.Prefix.{no-widening}
 use Rattle.runs.proofs.Next.{next-alone, opcode-alone}
@@ -51,12 +52,15 @@ jump01 c o = next01 c o + signed16 (lastOf (operandsAt01 c o))
 abbrev lands01 : List ℕ → ℕ → Bool
 lands01 c o = leb 65536 (jump01 c o) && begins01 c (jump01 c o - 65536)
 
--- 16, and 17 before 18, at an instruction
+-- 16, 32, and 17 before 18, at an instruction
 abbrev readable01 : List ℕ → ℕ → Bool
 readable01 c o = known (byte c o) && not (prefix (byte c o)) && leb (next01 c o) (length c)
 
 abbrev test16 : List ℕ → ℕ → ℕ
 test16 c o = refuse 16 (readable01 c o)
+
+abbrev test32 : List ℕ → List ℕ → ℕ → ℕ
+test32 q c o = refuse 32 (permits q (byte c o))
 
 abbrev tests01 : Record → ℕ → ℕ
 tests01 r o =
@@ -64,18 +68,19 @@ tests01 r o =
     && rangeBelow r (registersOf (name (row (byte (r .code) o))) (operandsAt01 (r .code) o))))
     (refuse 18 (leads (flow (row (byte (r .code) o))) (begins01 (r .code) (next01 (r .code) o)) (lands01 (r .code) o)))
 
-abbrev examineRecord01 : Record → ℕ
-examineRecord01 r =
+abbrev examineRecord01 : List ℕ → Record → ℕ
+examineRecord01 q r =
     first (first (refuse 16 (ltb 0 (length (r .code)))) (firstAt01 (test16 (r .code)) (r .code) 0 0))
+    (first (firstAt01 (test32 q (r .code)) (r .code) 0 0)
     (first (firstAt01 (tests01 r) (r .code) 0 0)
-    (first (firstOf (λ (t : ℕ). refuse 19 (begins01 (r .code) t)) (r .handlers)) (refuse 20 (rising (r .lines)))))
+    (first (firstOf (λ (t : ℕ). refuse 19 (begins01 (r .code) t)) (r .handlers)) (refuse 20 (rising (r .lines))))))
 
-examineAll01 : List Record → ℕ
-examineAll01 [] = 0
-examineAll01 (r ∷ rs) = first (examineRecord01 r) (examineAll01 rs)
+examineAll01 : List ℕ → List Record → ℕ
+examineAll01 q [] = 0
+examineAll01 q (r ∷ rs) = first (examineRecord01 q r) (examineAll01 q rs)
 
-pub examinePattern01 : Pattern → ℕ
-examinePattern01 p = first (refuse 15 (whole (rlens p))) (examineAll01 p)
+pub examinePattern01 : List ℕ → Pattern → ℕ
+examinePattern01 q p = first (refuse 15 (whole (rlens p))) (examineAll01 q p)
 
 -- no prefix begins an instruction
 abbrev pub NoPrefix : List ℕ → Type 0
@@ -134,6 +139,14 @@ module _ (c : List ℕ) (n : NoPrefix c) where
         go true d = refl
         go false d = refl
 
+    at32-same : (q : List ℕ) → at32 q c o ≡ test32 q c o
+    unfolding permittedAt
+    at32-same q = rw (opcode-alone c o p) (ap (refuse 32) (go (permits q (byte c o))))
+      where
+        go : (b : Bool) → (b && b) ≡ b
+        go true = refl
+        go false = refl
+
 module _ (r : Record) (n : NoPrefix (r .code)) where
   tests-same : (o : ℕ) → prefix (byte (r .code) o) ≡ false → at1718 r o ≡ tests01 r o
   unfolding bounded operandsBelow follows
@@ -147,28 +160,29 @@ module _ (r : Record) (n : NoPrefix (r .code)) where
   handlers-same [] = refl
   handlers-same (t ∷ ts) = rw (begins-same (r .code) n t, handlers-same ts)
 
-  record-same : examineRecord r ≡ examineRecord01 r
-  unfolding examineRecord exam16 exam1718 exam19 exam20
-  record-same =
+  record-same : (q : List ℕ) → examineRecord q r ≡ examineRecord01 q r
+  unfolding examineRecord exam16 exam32 exam1718 exam19 exam20
+  record-same q =
       let c = r .code in
       let a = first-same (at16 c) (test16 c) c 0 0 n (λ j t. rw zero-add (at16-same c n j (n j t))) in
-      let b = first-same (at1718 r) (tests01 r) c 0 0 n (λ j t. rw zero-add (tests-same j (n j t))) in
-      rw (a, b, handlers-same (r .handlers))
+      let b = first-same (at32 q c) (test32 q c) c 0 0 n (λ j t. rw zero-add (at32-same c n j (n j t) q)) in
+      let d = first-same (at1718 r) (tests01 r) c 0 0 n (λ j t. rw zero-add (tests-same j (n j t))) in
+      rw (a, b, d, handlers-same (r .handlers))
 
-all-same : (rs : List Record) → ((i : ℕ) → i < length rs → NoPrefix (getD rs i blank .code)) → examineAll rs ≡ examineAll01 rs
+all-same : (q : List ℕ) (rs : List Record) → ((i : ℕ) → i < length rs → NoPrefix (getD rs i blank .code)) → examineAll q rs ≡ examineAll01 q rs
 unfolding examineAll examineAll01
-all-same [] n = refl
-all-same (r ∷ rs) n = rw (record-same r (n 0 (omega arith)), all-same rs (λ i h. n (suc i) (suc-le-suc h)))
+all-same q [] n = refl
+all-same q (r ∷ rs) n = rw (record-same r (n 0 (omega arith)) q, all-same q rs (λ i h. n (suc i) (suc-le-suc h)))
 
 -- the same number, and so the same answer for the file
-pub judged-as-before : (p : Pattern) → ((i : ℕ) → i < length p → NoPrefix (recAt p i .code)) → examinePattern p ≡ examinePattern01 p
+pub judged-as-before : (q : List ℕ) (p : Pattern) → ((i : ℕ) → i < length p → NoPrefix (recAt p i .code)) → examinePattern q p ≡ examinePattern01 q p
 unfolding examinePattern examinePattern01
-judged-as-before p n = rw (all-same p n)
+judged-as-before q p n = rw (all-same q p n)
 
-pub passing-as-before : (f : List ℕ) (c : Content) → let p = patternOf f c in ((i : ℕ) → i < length p → NoPrefix (recAt p i .code))
-    → passing f c ≡ cond (eqb (examinePattern01 (patternOf f c)) 0) (ok c) (refused (examinePattern01 (patternOf f c)))
+pub passing-as-before : (q f : List ℕ) (c : Content) → let p = patternOf f c in ((i : ℕ) → i < length p → NoPrefix (recAt p i .code))
+    → passing q f c ≡ cond (eqb (examinePattern01 q (patternOf f c)) 0) (ok c) (refused (examinePattern01 q (patternOf f c)))
 unfolding passing
-passing-as-before f c n = rw (judged-as-before (patternOf f c) n)
+passing-as-before q f c n = rw (judged-as-before q (patternOf f c) n)
 
 -- A pattern that passes by paper 01's reading has no prefix where an instruction begins, by that reading and so by this one.
 first-zero01 : (f : ℕ → ℕ) (bs : List ℕ) (left o : ℕ) → firstAt01 f bs left o ≡ 0 → (j : ℕ) → T (reach01 bs left j) → f (o + j) ≡ 0
@@ -187,8 +201,8 @@ no-prefix01 c o t = go (known (byte c o)) (prefix (byte c o)) t
     go true false t = refl
     go false p t = absurd t
 
-record-plain : (r : Record) → examineRecord01 r ≡ 0 → NoPrefix (r .code)
-record-plain r e o t =
+record-plain : (q : List ℕ) (r : Record) → examineRecord01 q r ≡ 0 → NoPrefix (r .code)
+record-plain q r e o t =
     let c = r .code in
     let a = first-zero (first (refuse 16 (ltb 0 (length c))) (firstAt01 (test16 c) c 0 0)) _ e .0 in
     let b = first-zero (refuse 16 (ltb 0 (length c))) _ a .1 in
@@ -199,14 +213,14 @@ record-plain r e o t =
         let c = r .code in
         no-prefix01 c j (refuse-zero 15 (readable01 c j) (rw zero-add at (first-zero01 (test16 c) c 0 0 b j u)))
 
-all-plain : (rs : List Record) → examineAll01 rs ≡ 0 → (i : ℕ) → i < length rs → NoPrefix (getD rs i blank .code)
+all-plain : (q : List ℕ) (rs : List Record) → examineAll01 q rs ≡ 0 → (i : ℕ) → i < length rs → NoPrefix (getD rs i blank .code)
 unfolding examineAll01
-all-plain [] e i h = absurd (omega arith)
-all-plain (r ∷ rs) e zero h = record-plain r (first-zero (examineRecord01 r) _ e .0)
-all-plain (r ∷ rs) e (suc i) h = all-plain rs (first-zero (examineRecord01 r) _ e .1) i (le-of-suc-le-suc h)
+all-plain q [] e i h = absurd (omega arith)
+all-plain q (r ∷ rs) e zero h = record-plain q r (first-zero (examineRecord01 q r) _ e .0)
+all-plain q (r ∷ rs) e (suc i) h = all-plain q rs (first-zero (examineRecord01 q r) _ e .1) i (le-of-suc-le-suc h)
 
 -- so what passes by that reading passes
-pub passes-still : (p : Pattern) → examinePattern01 p ≡ 0 → examinePattern p ≡ 0
+pub passes-still : (q : List ℕ) (p : Pattern) → examinePattern01 q p ≡ 0 → examinePattern q p ≡ 0
 unfolding examinePattern01
-passes-still p e =
-    judged-as-before p (all-plain p (first-zero (refuse 15 (whole (rlens p))) _ e .1)) ∙ e
+passes-still q p e =
+    judged-as-before q p (all-plain q p (first-zero (refuse 15 (whole (rlens p))) _ e .1)) ∙ e

@@ -89,7 +89,7 @@ module _ (f : List ℕ) (m : Nine) (a : Allowance) (c : Content) (loads : loadin
     past-the-last h = rw visited (visits-beyond (recordsOf c) 1 (rw visits-are at h))
 
     -- so a file that passes makes one visit to each record
-    pub passing-visits : Passes (patternOf f c) → visitsOf c ≡ length (recordsOf c)
-    passing-visits p =
-        let tree = whole-iff (pattern.rlens (patternOf f c)) .0 (good-file (patternOf f c) (passes-iff (patternOf f c) .1 p) .tree) in
+    pub passing-visits : (q : List ℕ) → Passes q (patternOf f c) → visitsOf c ≡ length (recordsOf c)
+    passing-visits q p =
+        let tree = whole-iff (pattern.rlens (patternOf f c)) .0 (good-file q (patternOf f c) (passes-iff q (patternOf f c) .1 p) .tree) in
         whole-tree .1 (rw (pattern-rlens f (recordsOf c) (filesOf c)) at tree)
