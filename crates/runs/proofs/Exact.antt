@@ -41,21 +41,24 @@ met-none true b t u = absurd t
 met-none false true t u = refl
 met-none false false t u = absurd u
 
+pub filled-16 : (c : List ℕ) → exam16 c ≡ 0 → 0 < length c
+unfolding exam16
+filled-16 c e = ltb→lt 0 (length c) (refuse-zero 15 (ltb 0 (length c)) (first-zero (refuse 16 (ltb 0 (length c))) _ e .0))
+
 pub each-16 : (c : List ℕ) → exam16 c ≡ 0 → (o : ℕ) → T (begins c o) → T (not (stray c o)) × T (readable c o)
 unfolding exam16
 each-16 c e o t = none-met (stray c o) (readable c o) (each (at16 c) c (first-zero (refuse 16 (ltb 0 (length c))) _ e .1) o t)
 
 pub good : (q : List ℕ) (r : Record) → examineRecord q r ≡ 0 → Good r
-unfolding examineRecord exam16 exam1718 exam19 exam20
+unfolding examineRecord exam1718 exam19 exam20
 good q r e =
     let a = first-zero (exam16 (r .code)) _ e in
     let b = first-zero (exam1718 r) _ (first-zero (exam32 q (r .code)) _ (a .1) .1) in
     let c = first-zero (exam19 r) _ (b .1) in
-    let d = first-zero (refuse 16 (ltb 0 (ilen r))) _ (a .0) in
     let i = each (at1718 r) (r .code) (b .0) in
     let j = each-16 (r .code) (a .0) in
     record {
-      filled = ltb→lt 0 (ilen r) (refuse-zero 15 (ltb 0 (ilen r)) (d .0));
+      filled = filled-16 (r .code) (a .0);
       paired = λ o t. j o t .0;
       reads = λ o t. j o t .1;
       fit = λ o t. refuse-zero 16 (bounded r o) (first-zero (refuse 17 (bounded r o)) _ (i o t) .0);

@@ -26,7 +26,7 @@ use Rattle.format.proofs.Answers.{first-zero, zero-first, refuse-zero, refuse-p
 use Rattle.runs.proofs.Tests.{Hit, firstAt-hit, firstOf-hit}
 use Rattle.runs.proofs.Tree.{whole-iff}
 use Rattle.runs.proofs.Line.{mono}
-use Rattle.runs.proofs.Exact.{GoodFile, good-file, PermittingFile, permitting-file, all-zero}
+use Rattle.runs.proofs.Exact.{filled-16, each-16, each-32, GoodFile, good-file, PermittingFile, permitting-file, all-zero}
 
 -- The test of 18 against its words.
 
@@ -136,6 +136,28 @@ told-32 q r n e =
     let h = refuse-hit 32 n (permittedAt q (r .code) (i .at)) (rw zero-add at (i .gives)) in
     (h .0, record { at = i .at; starts = i .starts; forbidden = h .1 })
 
+-- so each answers 0 exactly where none is met
+pub clear-16 : (r : Record) → (exam16 (r .code) ≡ 0) ↔ ((¬ Bad16 r) × (¬ Bad25 r))
+clear-16 r = (λ e. (none-16 e, none-25 e), λ h. go h (exam16 (r .code)) refl)
+  where
+    none-16 : exam16 (r .code) ≡ 0 → ¬ Bad16 r
+    none-16 e (inl z) = omega (arith, filled-16 (r .code) e)
+    none-16 e (inr b) = T-not (readable (r .code) (b .at)) (b .fails) (each-16 (r .code) e (b .at) (b .starts) .1)
+
+    none-25 : exam16 (r .code) ≡ 0 → ¬ Bad25 r
+    none-25 e b = T-not (stray (r .code) (b .at)) (each-16 (r .code) e (b .at) (b .starts) .0) (b .alone)
+
+    go : (¬ Bad16 r) × (¬ Bad25 r) → (k : ℕ) → exam16 (r .code) ≡ k → exam16 (r .code) ≡ 0
+    go h zero e = e
+    go h (suc k) e = elim (told-16 r k e) [ inl b ↦ absurd (h .0 (b .1)) | inr b ↦ absurd (h .1 (b .1)) ]
+
+pub clear-32 : (q : List ℕ) (r : Record) → (exam32 q (r .code) ≡ 0) ↔ (¬ Bad32 q r)
+clear-32 q r = (λ e b. T-not (permittedAt q (r .code) (b .at)) (b .forbidden) (each-32 q r e (b .at) (b .starts)), λ h. go h (exam32 q (r .code)) refl)
+  where
+    go : ¬ Bad32 q r → (k : ℕ) → exam32 q (r .code) ≡ k → exam32 q (r .code) ≡ 0
+    go h zero e = e
+    go h (suc k) e = absurd (h (told-32 q r k e .1))
+
 module _ (q : List ℕ) (r : Record) (n : ℕ) where
   same : {k : ℕ} → k ≡ suc n → Bad q r k → Bad q r (suc n)
   same e b = subst (λ (k : ℕ). Bad q r k) e b
@@ -196,7 +218,8 @@ unfolding examineAll
 hit-all q [] n e = absurd (omega arith)
 hit-all q (r ∷ rs) n e = go (first-hit (examineRecord q r) (examineAll q rs) n e) (hit-all q rs n)
   where
-    go : (examineRecord q r ≡ suc n) ⊎ (examineAll q rs ≡ suc n) → (examineAll q rs ≡ suc n → Some (λ (r : Record). Bad q r (suc n)) rs) → Some (λ (r : Record). Bad q r (suc n)) (r ∷ rs)
+    go : (examineRecord q r ≡ suc n) ⊎ (examineAll q rs ≡ suc n) → (examineAll q rs ≡ suc n → Some (λ (r : Record). Bad q r (suc n)) rs)
+        → Some (λ (r : Record). Bad q r (suc n)) (r ∷ rs)
     go (inl e) ih = record { rec = 0; inside = omega arith; holds = hit-rec q r n e }
     go (inr e) ih = let w = ih e in record { rec = suc (w .rec); inside = suc-le-suc (w .inside); holds = w .holds }
 
