@@ -29,7 +29,7 @@ use Rattle.runs.proofs.Tests.{firstAt-hit, firstOf-hit}
 use Rattle.runs.proofs.Tree.{whole-iff}
 use Rattle.runs.proofs.Safe.{begins-zero}
 use Rattle.runs.proofs.Exact.{filled-16, permitting-file}
-use Rattle.runs.proofs.Refusal.{told-16, told-32, clear-16, clear-32, passes-iff, by-record}
+use Rattle.runs.proofs.Refusal.{Bad, told-16, told-32, clear-16, clear-32, record-iff, passes-iff, by-record}
 use Rattle.laws.proofs.Exact.{InRecord, by16, by32, by1718, by19, by20, InOrder, by15, byRecord, in-order}
 use Rattle.laws.proofs.Numbers.{Among}
 use Rattle.laws.proofs.Refusals.{load-number}
@@ -87,12 +87,12 @@ module _ (r : Record) where
   unfolding exam20
   not-by-20 e = omega (arith, refuse-hit 20 31 (rising (r .lines)) e .0)
 
--- Of a pattern: the tree is whole, all records before one pass, that one meets neither 16 nor 25 and holds an opcode that is not permitted.
+-- Of a pattern: the tree is whole, the records before one meet no condition, that one meets neither 16 nor 25 and holds an opcode that is not permitted.
 pub record Forbids (q : List ℕ) (p : Pattern) : Type 0 where
   pub tree : Whole (rlens p)
   pub rec : ℕ
   pub inside : rec < length p
-  pub before : (j : ℕ) → j < rec → examineRecord q (recAt p j) ≡ 0
+  pub before : (j : ℕ) → j < rec → (n : ℕ) → ¬ Bad q (recAt p j) n
   pub none-16 : ¬ Bad16 (recAt p rec)
   pub none-25 : ¬ Bad25 (recAt p rec)
   pub holds : Bad32 q (recAt p rec)
@@ -115,7 +115,9 @@ pub pattern-32 : (q : List ℕ) (p : Pattern) → (examinePattern q p ≡ 32) �
 pattern-32 q p = (λ e. there (in-order q p 31 e), back)
   where
     back : Forbids q p → examinePattern q p ≡ 32
-    back x = by-first q 31 p (x .tree) (x .rec) (x .inside) (x .before) (before-17 q (recAt p (x .rec)) (x .none-16) (x .none-25) (x .holds))
+    back x =
+        let r = recAt p (x .rec) in
+        by-first q 31 p (x .tree) (x .rec) (x .inside) (λ j g. record-iff q (recAt p j) .1 (x .before j g)) (before-17 q r (x .none-16) (x .none-25) (x .holds))
 
     in-record : (r : Record) → InRecord q r 32 → (exam16 (r .code) ≡ 0) × (exam32 q (r .code) ≡ 32)
     in-record r (by16 e) = absurd (not-by-16 r e)
@@ -130,7 +132,7 @@ pattern-32 q p = (λ e. there (in-order q p 31 e), back)
         let r = recAt p i in
         let k = in-record r x in
         let c = clear-16 r .0 (k .0) in
-        record { tree = w; rec = i; inside = h; before = z; none-16 = c .0; none-25 = c .1; holds = holds-32 q r .0 (k .1) }
+        record { tree = w; rec = i; inside = h; before = λ j g. record-iff q (recAt p j) .0 (z j g); none-16 = c .0; none-25 = c .1; holds = holds-32 q r .0 (k .1) }
 
 -- Of a call. A load takes no list, and has no 32.
 pub never-32-load : (f : List ℕ) (m : Nine) (a : Allowance) → ¬ (load f m a .answer ≡ refused 32)

@@ -26,7 +26,7 @@ use Rattle.format.proofs.Answers.{first-zero, zero-first, refuse-zero, refuse-p
 use Rattle.runs.proofs.Tests.{Hit, firstAt-hit, firstOf-hit}
 use Rattle.runs.proofs.Tree.{whole-iff}
 use Rattle.runs.proofs.Line.{mono}
-use Rattle.runs.proofs.Exact.{filled-16, each-16, each-32, GoodFile, good-file, PermittingFile, permitting-file, all-zero}
+use Rattle.runs.proofs.Exact.{filled-16, each-16, each-32, Good, good, Permitting, permitting, GoodFile, good-file, PermittingFile, permitting-file, all-zero}
 
 -- The test of 18 against its words.
 
@@ -58,35 +58,8 @@ module _ (c : List ℕ) (o : ℕ) where
 
 -- From 0: none is met.
 
-no-meet : (q : List ℕ) (F : Pattern) → GoodFile F → PermittingFile q F → (n : ℕ) → Meets q F n → ⊥
-no-meet q F G A n (meets15 w) = w (whole-iff (rlens F) .0 (G .tree))
-no-meet q F G A n (meets16 s) = go (s .holds)
-  where
-    go : Bad16 (recAt F (s .rec)) → ⊥
-    go (inl e) = omega (arith, G .each-rec (s .rec) (s .inside) .filled)
-    go (inr b) = T-not (readable (recAt F (s .rec) .code) (b .at)) (b .fails) (G .each-rec (s .rec) (s .inside) .reads (b .at) (b .starts))
-no-meet q F G A n (meets17 s) =
-    let b = s .holds in
-    none-high (recAt F (s .rec)) (b .at) (G .each-rec (s .rec) (s .inside) .fit (b .at) (b .starts)) (b .high)
-no-meet q F G A n (meets18 s) = not-lost (recAt F (s .rec) .code) (s .holds .at) (G .each-rec (s .rec) (s .inside) .go (s .holds .at) (s .holds .starts)) (s .holds .lost)
-no-meet q F G A n (meets19 s) =
-    T-not (begins (recAt F (s .rec) .code) (getD (recAt F (s .rec) .handlers) (s .holds .h) 0)) (s .holds .none-begins) (G .each-rec (s .rec) (s .inside) .caught (s .holds .h) (s .holds .given))
-no-meet q F G A n (meets20 s) =
-    let b = s .holds in
-    omega (arith, b .falls, mono (recAt F (s .rec) .lines) (G .each-rec (s .rec) (s .inside) .rise) (b .i) (suc (b .i)) (omega arith) (b .given))
-no-meet q F G A n (meets25 s) =
-    let b = s .holds in
-    T-not (stray (recAt F (s .rec) .code) (b .at)) (G .each-rec (s .rec) (s .inside) .paired (b .at) (b .starts)) (b .alone)
-no-meet q F G A n (meets32 s) =
-    let b = s .holds in
-    T-not (permittedAt q (recAt F (s .rec) .code) (b .at)) (b .forbidden) (A (s .rec) (s .inside) (b .at) (b .starts))
-
-pub pass-sound : (q : List ℕ) (F : Pattern) → examinePattern q F ≡ 0 → Passes q F
-pass-sound q F e n = no-meet q F (good-file q F e) (permitting-file q F e) n
-
--- From a number: that condition is met.
-
-data Bad (q : List ℕ) (r : Record) : ℕ → Type 0 where
+-- condition n is met by a record
+pub data Bad (q : List ℕ) (r : Record) : ℕ → Type 0 where
   bad16 : Bad16 r → Bad q r 16
   bad17 : Bad17 r → Bad q r 17
   bad18 : Bad18 r → Bad q r 18
@@ -94,6 +67,35 @@ data Bad (q : List ℕ) (r : Record) : ℕ → Type 0 where
   bad20 : Bad20 r → Bad q r 20
   bad25 : Bad25 r → Bad q r 25
   bad32 : Bad32 q r → Bad q r 32
+
+no-bad : (q : List ℕ) (r : Record) → Good r → Permitting q r → (n : ℕ) → Bad q r n → ⊥
+no-bad q r G A n (bad16 (inl e)) = omega (arith, G .filled)
+no-bad q r G A n (bad16 (inr b)) = T-not (readable (r .code) (b .at)) (b .fails) (G .reads (b .at) (b .starts))
+no-bad q r G A n (bad17 b) = none-high r (b .at) (G .fit (b .at) (b .starts)) (b .high)
+no-bad q r G A n (bad18 b) = not-lost (r .code) (b .at) (G .go (b .at) (b .starts)) (b .lost)
+no-bad q r G A n (bad19 b) = T-not (begins (r .code) (getD (r .handlers) (b .h) 0)) (b .none-begins) (G .caught (b .h) (b .given))
+no-bad q r G A n (bad20 b) = omega (arith, b .falls, mono (r .lines) (G .rise) (b .i) (suc (b .i)) (omega arith) (b .given))
+no-bad q r G A n (bad25 b) = T-not (stray (r .code) (b .at)) (G .paired (b .at) (b .starts)) (b .alone)
+no-bad q r G A n (bad32 b) = T-not (permittedAt q (r .code) (b .at)) (b .forbidden) (A (b .at) (b .starts))
+
+module _ (q : List ℕ) (F : Pattern) (G : GoodFile F) (A : PermittingFile q F) where
+  none-in : (n : ℕ) → Some (λ (r : Record). Bad q r n) F → ⊥
+  none-in n s = no-bad q (recAt F (s .rec)) (G .each-rec (s .rec) (s .inside)) (A (s .rec) (s .inside)) n (s .holds)
+
+  no-meet : (n : ℕ) → Meets q F n → ⊥
+  no-meet n (meets15 w) = w (whole-iff (rlens F) .0 (G .tree))
+  no-meet n (meets16 s) = none-in n (record { rec = s .rec; inside = s .inside; holds = bad16 (s .holds) })
+  no-meet n (meets17 s) = none-in n (record { rec = s .rec; inside = s .inside; holds = bad17 (s .holds) })
+  no-meet n (meets18 s) = none-in n (record { rec = s .rec; inside = s .inside; holds = bad18 (s .holds) })
+  no-meet n (meets19 s) = none-in n (record { rec = s .rec; inside = s .inside; holds = bad19 (s .holds) })
+  no-meet n (meets20 s) = none-in n (record { rec = s .rec; inside = s .inside; holds = bad20 (s .holds) })
+  no-meet n (meets25 s) = none-in n (record { rec = s .rec; inside = s .inside; holds = bad25 (s .holds) })
+  no-meet n (meets32 s) = none-in n (record { rec = s .rec; inside = s .inside; holds = bad32 (s .holds) })
+
+pub pass-sound : (q : List ℕ) (F : Pattern) → examinePattern q F ≡ 0 → Passes q F
+pass-sound q F e n = no-meet q F (good-file q F e) (permitting-file q F e) n
+
+-- From a number: that condition is met.
 
 -- a map that does not rise falls somewhere
 falls-at : (m : List LineRow) → T (not (rising m)) → (i : ℕ) × (suc i < length m) × (entry m (suc i) .pos < entry m i .pos)
@@ -212,6 +214,14 @@ module _ (q : List ℕ) (r : Record) (n : ℕ) where
       a : (exam16 (r .code) ≡ suc n) ⊎ (first (exam32 q (r .code)) (first (exam1718 r) (first (exam19 r) (exam20 r))) ≡ suc n) → Bad q r (suc n)
       a (inl e) = hit16 e
       a (inr e) = b (first-hit (exam32 q (r .code)) (first (exam1718 r) (first (exam19 r) (exam20 r))) n e)
+
+-- A record's examination answers 0 exactly where the record meets none.
+pub record-iff : (q : List ℕ) (r : Record) → (examineRecord q r ≡ 0) ↔ ((n : ℕ) → ¬ Bad q r n)
+record-iff q r = (λ e. no-bad q r (good q r e) (permitting q r e), λ h. go h (examineRecord q r) refl)
+  where
+    go : ((n : ℕ) → ¬ Bad q r n) → (k : ℕ) → examineRecord q r ≡ k → examineRecord q r ≡ 0
+    go h zero e = e
+    go h (suc k) e = absurd (h (suc k) (hit-rec q r k e))
 
 hit-all : (q : List ℕ) (rs : List Record) (n : ℕ) → examineAll q rs ≡ suc n → Some (λ (r : Record). Bad q r (suc n)) rs
 unfolding examineAll
