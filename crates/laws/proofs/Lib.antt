@@ -22,4 +22,7 @@ pub mod Unlimited
 pub mod Cut
 pub mod Allowance
 pub mod Beyond
+pub mod Unrestricted
+pub mod Permitted
+pub mod Forbidden
 pub mod Samples

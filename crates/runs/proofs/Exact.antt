@@ -41,20 +41,24 @@ met-none true b t u = absurd t
 met-none false true t u = refl
 met-none false false t u = absurd u
 
-each-16 : (c : List ℕ) → firstAt (at16 c) c 0 0 ≡ 0 → (o : ℕ) → T (begins c o) → T (not (stray c o)) × T (readable c o)
-each-16 c e o t = none-met (stray c o) (readable c o) (each (at16 c) c e o t)
+pub filled-16 : (c : List ℕ) → exam16 c ≡ 0 → 0 < length c
+unfolding exam16
+filled-16 c e = ltb→lt 0 (length c) (refuse-zero 15 (ltb 0 (length c)) (first-zero (refuse 16 (ltb 0 (length c))) _ e .0))
+
+pub each-16 : (c : List ℕ) → exam16 c ≡ 0 → (o : ℕ) → T (begins c o) → T (not (stray c o)) × T (readable c o)
+unfolding exam16
+each-16 c e o t = none-met (stray c o) (readable c o) (each (at16 c) c (first-zero (refuse 16 (ltb 0 (length c))) _ e .1) o t)
 
 pub good : (q : List ℕ) (r : Record) → examineRecord q r ≡ 0 → Good r
-unfolding examineRecord exam16 exam1718 exam19 exam20
+unfolding examineRecord exam1718 exam19 exam20
 good q r e =
     let a = first-zero (exam16 (r .code)) _ e in
     let b = first-zero (exam1718 r) _ (first-zero (exam32 q (r .code)) _ (a .1) .1) in
     let c = first-zero (exam19 r) _ (b .1) in
-    let d = first-zero (refuse 16 (ltb 0 (ilen r))) _ (a .0) in
     let i = each (at1718 r) (r .code) (b .0) in
-    let j = each-16 (r .code) (d .1) in
+    let j = each-16 (r .code) (a .0) in
     record {
-      filled = ltb→lt 0 (ilen r) (refuse-zero 15 (ltb 0 (ilen r)) (d .0));
+      filled = filled-16 (r .code) (a .0);
       paired = λ o t. j o t .0;
       reads = λ o t. j o t .1;
       fit = λ o t. refuse-zero 16 (bounded r o) (first-zero (refuse 17 (bounded r o)) _ (i o t) .0);
@@ -67,12 +71,15 @@ good q r e =
 abbrev pub Permitting : List ℕ → Record → Type 0
 Permitting q r = (o : ℕ) → T (begins (r .code) o) → T (permittedAt q (r .code) o)
 
+pub each-32 : (q : List ℕ) (r : Record) → exam32 q (r .code) ≡ 0 → Permitting q r
+unfolding exam32
+each-32 q r e o t = refuse-zero 31 (permittedAt q (r .code) o) (each (at32 q (r .code)) (r .code) e o t)
+
 pub permitting : (q : List ℕ) (r : Record) → examineRecord q r ≡ 0 → Permitting q r
-unfolding examineRecord exam32
-permitting q r e o t =
+unfolding examineRecord
+permitting q r e =
     let a = first-zero (exam16 (r .code)) _ e in
-    let b = first-zero (exam32 q (r .code)) _ (a .1) in
-    refuse-zero 31 (permittedAt q (r .code) o) (each (at32 q (r .code)) (r .code) (b .0) o t)
+    each-32 q r (first-zero (exam32 q (r .code)) _ (a .1) .0)
 
 pub all-zero : (q : List ℕ) (rs : List Record) → examineAll q rs ≡ 0 → (i : ℕ) → i < length rs → examineRecord q (getD rs i blank) ≡ 0
 unfolding examineAll

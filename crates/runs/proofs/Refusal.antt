@@ -26,7 +26,7 @@ use Rattle.format.proofs.Answers.{first-zero, zero-first, refuse-zero, refuse-p
 use Rattle.runs.proofs.Tests.{Hit, firstAt-hit, firstOf-hit}
 use Rattle.runs.proofs.Tree.{whole-iff}
 use Rattle.runs.proofs.Line.{mono}
-use Rattle.runs.proofs.Exact.{GoodFile, good-file, PermittingFile, permitting-file, all-zero}
+use Rattle.runs.proofs.Exact.{filled-16, each-16, each-32, Good, good, Permitting, permitting, GoodFile, good-file, PermittingFile, permitting-file, all-zero}
 
 -- The test of 18 against its words.
 
@@ -58,35 +58,8 @@ module _ (c : List ℕ) (o : ℕ) where
 
 -- From 0: none is met.
 
-no-meet : (q : List ℕ) (F : Pattern) → GoodFile F → PermittingFile q F → (n : ℕ) → Meets q F n → ⊥
-no-meet q F G A n (meets15 w) = w (whole-iff (rlens F) .0 (G .tree))
-no-meet q F G A n (meets16 s) = go (s .holds)
-  where
-    go : Bad16 (recAt F (s .rec)) → ⊥
-    go (inl e) = omega (arith, G .each-rec (s .rec) (s .inside) .filled)
-    go (inr b) = T-not (readable (recAt F (s .rec) .code) (b .at)) (b .fails) (G .each-rec (s .rec) (s .inside) .reads (b .at) (b .starts))
-no-meet q F G A n (meets17 s) =
-    let b = s .holds in
-    none-high (recAt F (s .rec)) (b .at) (G .each-rec (s .rec) (s .inside) .fit (b .at) (b .starts)) (b .high)
-no-meet q F G A n (meets18 s) = not-lost (recAt F (s .rec) .code) (s .holds .at) (G .each-rec (s .rec) (s .inside) .go (s .holds .at) (s .holds .starts)) (s .holds .lost)
-no-meet q F G A n (meets19 s) =
-    T-not (begins (recAt F (s .rec) .code) (getD (recAt F (s .rec) .handlers) (s .holds .h) 0)) (s .holds .none-begins) (G .each-rec (s .rec) (s .inside) .caught (s .holds .h) (s .holds .given))
-no-meet q F G A n (meets20 s) =
-    let b = s .holds in
-    omega (arith, b .falls, mono (recAt F (s .rec) .lines) (G .each-rec (s .rec) (s .inside) .rise) (b .i) (suc (b .i)) (omega arith) (b .given))
-no-meet q F G A n (meets25 s) =
-    let b = s .holds in
-    T-not (stray (recAt F (s .rec) .code) (b .at)) (G .each-rec (s .rec) (s .inside) .paired (b .at) (b .starts)) (b .alone)
-no-meet q F G A n (meets32 s) =
-    let b = s .holds in
-    T-not (permittedAt q (recAt F (s .rec) .code) (b .at)) (b .forbidden) (A (s .rec) (s .inside) (b .at) (b .starts))
-
-pub pass-sound : (q : List ℕ) (F : Pattern) → examinePattern q F ≡ 0 → Passes q F
-pass-sound q F e n = no-meet q F (good-file q F e) (permitting-file q F e) n
-
--- From a number: that condition is met.
-
-data Bad (q : List ℕ) (r : Record) : ℕ → Type 0 where
+-- condition n is met by a record
+pub data Bad (q : List ℕ) (r : Record) : ℕ → Type 0 where
   bad16 : Bad16 r → Bad q r 16
   bad17 : Bad17 r → Bad q r 17
   bad18 : Bad18 r → Bad q r 18
@@ -94,6 +67,35 @@ data Bad (q : List ℕ) (r : Record) : ℕ → Type 0 where
   bad20 : Bad20 r → Bad q r 20
   bad25 : Bad25 r → Bad q r 25
   bad32 : Bad32 q r → Bad q r 32
+
+no-bad : (q : List ℕ) (r : Record) → Good r → Permitting q r → (n : ℕ) → Bad q r n → ⊥
+no-bad q r G A n (bad16 (inl e)) = omega (arith, G .filled)
+no-bad q r G A n (bad16 (inr b)) = T-not (readable (r .code) (b .at)) (b .fails) (G .reads (b .at) (b .starts))
+no-bad q r G A n (bad17 b) = none-high r (b .at) (G .fit (b .at) (b .starts)) (b .high)
+no-bad q r G A n (bad18 b) = not-lost (r .code) (b .at) (G .go (b .at) (b .starts)) (b .lost)
+no-bad q r G A n (bad19 b) = T-not (begins (r .code) (getD (r .handlers) (b .h) 0)) (b .none-begins) (G .caught (b .h) (b .given))
+no-bad q r G A n (bad20 b) = omega (arith, b .falls, mono (r .lines) (G .rise) (b .i) (suc (b .i)) (omega arith) (b .given))
+no-bad q r G A n (bad25 b) = T-not (stray (r .code) (b .at)) (G .paired (b .at) (b .starts)) (b .alone)
+no-bad q r G A n (bad32 b) = T-not (permittedAt q (r .code) (b .at)) (b .forbidden) (A (b .at) (b .starts))
+
+module _ (q : List ℕ) (F : Pattern) (G : GoodFile F) (A : PermittingFile q F) where
+  none-in : (n : ℕ) → Some (λ (r : Record). Bad q r n) F → ⊥
+  none-in n s = no-bad q (recAt F (s .rec)) (G .each-rec (s .rec) (s .inside)) (A (s .rec) (s .inside)) n (s .holds)
+
+  no-meet : (n : ℕ) → Meets q F n → ⊥
+  no-meet n (meets15 w) = w (whole-iff (rlens F) .0 (G .tree))
+  no-meet n (meets16 s) = none-in n (record { rec = s .rec; inside = s .inside; holds = bad16 (s .holds) })
+  no-meet n (meets17 s) = none-in n (record { rec = s .rec; inside = s .inside; holds = bad17 (s .holds) })
+  no-meet n (meets18 s) = none-in n (record { rec = s .rec; inside = s .inside; holds = bad18 (s .holds) })
+  no-meet n (meets19 s) = none-in n (record { rec = s .rec; inside = s .inside; holds = bad19 (s .holds) })
+  no-meet n (meets20 s) = none-in n (record { rec = s .rec; inside = s .inside; holds = bad20 (s .holds) })
+  no-meet n (meets25 s) = none-in n (record { rec = s .rec; inside = s .inside; holds = bad25 (s .holds) })
+  no-meet n (meets32 s) = none-in n (record { rec = s .rec; inside = s .inside; holds = bad32 (s .holds) })
+
+pub pass-sound : (q : List ℕ) (F : Pattern) → examinePattern q F ≡ 0 → Passes q F
+pass-sound q F e n = no-meet q F (good-file q F e) (permitting-file q F e) n
+
+-- From a number: that condition is met.
 
 -- a map that does not rise falls somewhere
 falls-at : (m : List LineRow) → T (not (rising m)) → (i : ℕ) × (suc i < length m) × (entry m (suc i) .pos < entry m i .pos)
@@ -108,34 +110,65 @@ falls-at (e ∷ f ∷ m) t = go (leb (e .pos) (f .pos)) refl t (falls-at (f ∷ 
     go true q t ih = let w = ih t in (suc (w .0), suc-le-suc (w .1), w .2)
     go false q t ih = (0, omega arith, nleb→lt _ _ (subst (λ (b : Bool). T (not b)) (sym q) tt))
 
+-- a number of 16's reading is 16 or 25, by their words
+pub told-16 : (r : Record) (n : ℕ) → exam16 (r .code) ≡ suc n → ((16 ≡ suc n) × Bad16 r) ⊎ ((25 ≡ suc n) × Bad25 r)
+unfolding exam16
+told-16 r n e = go (first-hit (refuse 16 (ltb 0 (ilen r))) _ n e)
+  where
+    which : (o : ℕ) → T (begins (r .code) o) → (s : Bool) → stray (r .code) o ≡ s → cond s 25 (refuse 16 (readable (r .code) o)) ≡ suc n
+        → ((16 ≡ suc n) × Bad16 r) ⊎ ((25 ≡ suc n) × Bad25 r)
+    which o t true p e = inr (e, record { at = o; starts = t; alone = subst T (sym p) tt })
+    which o t false p e =
+        let h = refuse-hit 16 n (readable (r .code) o) e in
+        inl (h .0, inr (record { at = o; starts = t; paired = subst (λ (b : Bool). T (not b)) (sym p) tt; fails = h .1 }))
+
+    go : (refuse 16 (ltb 0 (ilen r)) ≡ suc n) ⊎ (firstAt (at16 (r .code)) (r .code) 0 0 ≡ suc n) → ((16 ≡ suc n) × Bad16 r) ⊎ ((25 ≡ suc n) × Bad25 r)
+    go (inl e) =
+        let h = refuse-hit 16 n (ltb 0 (ilen r)) e in
+        inl (h .0, inl (omega (arith, nltb→le 0 (ilen r) (h .1))))
+    go (inr e) =
+        let i = firstAt-hit (at16 (r .code)) (r .code) 0 0 n e in
+        which (i .at) (i .starts) (stray (r .code) (i .at)) refl (rw zero-add at (i .gives))
+
+-- and one of 32's is 32
+pub told-32 : (q : List ℕ) (r : Record) (n : ℕ) → exam32 q (r .code) ≡ suc n → (32 ≡ suc n) × Bad32 q r
+unfolding exam32
+told-32 q r n e =
+    let i = firstAt-hit (at32 q (r .code)) (r .code) 0 0 n e in
+    let h = refuse-hit 32 n (permittedAt q (r .code) (i .at)) (rw zero-add at (i .gives)) in
+    (h .0, record { at = i .at; starts = i .starts; forbidden = h .1 })
+
+-- so each answers 0 exactly where none is met
+pub clear-16 : (r : Record) → (exam16 (r .code) ≡ 0) ↔ ((¬ Bad16 r) × (¬ Bad25 r))
+clear-16 r = (λ e. (none-16 e, none-25 e), λ h. go h (exam16 (r .code)) refl)
+  where
+    none-16 : exam16 (r .code) ≡ 0 → ¬ Bad16 r
+    none-16 e (inl z) = omega (arith, filled-16 (r .code) e)
+    none-16 e (inr b) = T-not (readable (r .code) (b .at)) (b .fails) (each-16 (r .code) e (b .at) (b .starts) .1)
+
+    none-25 : exam16 (r .code) ≡ 0 → ¬ Bad25 r
+    none-25 e b = T-not (stray (r .code) (b .at)) (each-16 (r .code) e (b .at) (b .starts) .0) (b .alone)
+
+    go : (¬ Bad16 r) × (¬ Bad25 r) → (k : ℕ) → exam16 (r .code) ≡ k → exam16 (r .code) ≡ 0
+    go h zero e = e
+    go h (suc k) e = elim (told-16 r k e) [ inl b ↦ absurd (h .0 (b .1)) | inr b ↦ absurd (h .1 (b .1)) ]
+
+pub clear-32 : (q : List ℕ) (r : Record) → (exam32 q (r .code) ≡ 0) ↔ (¬ Bad32 q r)
+clear-32 q r = (λ e b. T-not (permittedAt q (r .code) (b .at)) (b .forbidden) (each-32 q r e (b .at) (b .starts)), λ h. go h (exam32 q (r .code)) refl)
+  where
+    go : ¬ Bad32 q r → (k : ℕ) → exam32 q (r .code) ≡ k → exam32 q (r .code) ≡ 0
+    go h zero e = e
+    go h (suc k) e = absurd (h (told-32 q r k e .1))
+
 module _ (q : List ℕ) (r : Record) (n : ℕ) where
   same : {k : ℕ} → k ≡ suc n → Bad q r k → Bad q r (suc n)
   same e b = subst (λ (k : ℕ). Bad q r k) e b
 
   hit16 : exam16 (r .code) ≡ suc n → Bad q r (suc n)
-  unfolding exam16
-  hit16 e = go (first-hit (refuse 16 (ltb 0 (ilen r))) _ n e)
-    where
-      which : (o : ℕ) → T (begins (r .code) o) → (s : Bool) → stray (r .code) o ≡ s → cond s 25 (refuse 16 (readable (r .code) o)) ≡ suc n → Bad q r (suc n)
-      which o t true p e = same e (bad25 (record { at = o; starts = t; alone = subst T (sym p) tt }))
-      which o t false p e =
-          let h = refuse-hit 16 n (readable (r .code) o) e in
-          same (h .0) (bad16 (inr (record { at = o; starts = t; paired = subst (λ (b : Bool). T (not b)) (sym p) tt; fails = h .1 })))
-
-      go : (refuse 16 (ltb 0 (ilen r)) ≡ suc n) ⊎ (firstAt (at16 (r .code)) (r .code) 0 0 ≡ suc n) → Bad q r (suc n)
-      go (inl e) =
-          let h = refuse-hit 16 n (ltb 0 (ilen r)) e in
-          same (h .0) (bad16 (inl (omega (arith, nltb→le 0 (ilen r) (h .1)))))
-      go (inr e) =
-          let i = firstAt-hit (at16 (r .code)) (r .code) 0 0 n e in
-          which (i .at) (i .starts) (stray (r .code) (i .at)) refl (rw zero-add at (i .gives))
+  hit16 e = elim (told-16 r n e) [ inl h ↦ same (h .0) (bad16 (h .1)) | inr h ↦ same (h .0) (bad25 (h .1)) ]
 
   hit32 : exam32 q (r .code) ≡ suc n → Bad q r (suc n)
-  unfolding exam32
-  hit32 e =
-      let i = firstAt-hit (at32 q (r .code)) (r .code) 0 0 n e in
-      let h = refuse-hit 32 n (permittedAt q (r .code) (i .at)) (rw zero-add at (i .gives)) in
-      same (h .0) (bad32 (record { at = i .at; starts = i .starts; forbidden = h .1 }))
+  hit32 e = let h = told-32 q r n e in same (h .0) (bad32 (h .1))
 
   hit1718 : exam1718 r ≡ suc n → Bad q r (suc n)
   unfolding exam1718
@@ -182,12 +215,21 @@ module _ (q : List ℕ) (r : Record) (n : ℕ) where
       a (inl e) = hit16 e
       a (inr e) = b (first-hit (exam32 q (r .code)) (first (exam1718 r) (first (exam19 r) (exam20 r))) n e)
 
+-- A record's examination answers 0 exactly where the record meets none.
+pub record-iff : (q : List ℕ) (r : Record) → (examineRecord q r ≡ 0) ↔ ((n : ℕ) → ¬ Bad q r n)
+record-iff q r = (λ e. no-bad q r (good q r e) (permitting q r e), λ h. go h (examineRecord q r) refl)
+  where
+    go : ((n : ℕ) → ¬ Bad q r n) → (k : ℕ) → examineRecord q r ≡ k → examineRecord q r ≡ 0
+    go h zero e = e
+    go h (suc k) e = absurd (h (suc k) (hit-rec q r k e))
+
 hit-all : (q : List ℕ) (rs : List Record) (n : ℕ) → examineAll q rs ≡ suc n → Some (λ (r : Record). Bad q r (suc n)) rs
 unfolding examineAll
 hit-all q [] n e = absurd (omega arith)
 hit-all q (r ∷ rs) n e = go (first-hit (examineRecord q r) (examineAll q rs) n e) (hit-all q rs n)
   where
-    go : (examineRecord q r ≡ suc n) ⊎ (examineAll q rs ≡ suc n) → (examineAll q rs ≡ suc n → Some (λ (r : Record). Bad q r (suc n)) rs) → Some (λ (r : Record). Bad q r (suc n)) (r ∷ rs)
+    go : (examineRecord q r ≡ suc n) ⊎ (examineAll q rs ≡ suc n) → (examineAll q rs ≡ suc n → Some (λ (r : Record). Bad q r (suc n)) rs)
+        → Some (λ (r : Record). Bad q r (suc n)) (r ∷ rs)
     go (inl e) ih = record { rec = 0; inside = omega arith; holds = hit-rec q r n e }
     go (inr e) ih = let w = ih e in record { rec = suc (w .rec); inside = suc-le-suc (w .inside); holds = w .holds }
 
