@@ -12,12 +12,13 @@ use Rattle.examine.proofs.examine.Tie as tie
 returns : tie.Need-returns
 unfolding format.examine
 returns c =
-    let c18 = c .before .before .before .before .before .before .before .before .before .before .before .before .before .before .before .before .before .before in
-    let c38 = c18 .before .before .before .before .before .before .before .before .before .before .before .before .before .before .before .before .before .before .before .before in
-    let a = c38 .args in
+    let passing = c .before .before .before .before .before .before .before .before .before .before .before .before .before .before .before .before .before .before in
+    let mid1 = passing .before .before .before .before .before .before .before .before .before .before .before .before .before .before .before .before .before .before .before .before in
+    let start = mid1 .before in
+    let a = start .args in
     let lent = words (a .records .now) (a .handlers .now) (a .pool .now) (a .symbols .now) (a .strings .now) (a .names .now) (a .filenames .now) (a .files .now) (a .lines .now) in
     let allow = allowanceOf (a .a) in
-    c18 .load-passing .ensures ∙ ap (laid (sizes lent)) (examining-is (a .f .now) (sizes lent) allow)
+    passing .load-passing .ensures ∙ ap (laid (sizes lent)) (examining-is (a .f .now) (sizes lent) allow (a .permitted .now))
 
 pub examine-spec : {M : Type 1} → statement M
 examine-spec =

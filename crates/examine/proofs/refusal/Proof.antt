@@ -7,10 +7,14 @@ use Rattle.examine.proofs.refusal.Statement.{statement}
 use Rattle.examine.proofs.refusal.Tie as tie
 
 returns : tie.Need-returns
-returns c = rw (lt-leb (c .before .before .before .before .before .args .n) (c .before .before .before .before .before .args .rows) (omega arith))
+returns c =
+    let start = c .before .before .before .before .before .before in
+    rw (lt-leb (start .args .n) (start .args .rows) (omega arith))
 
 returns-2 : tie.Need-returns-2
-returns-2 c = rw (le-leb (c .before .before .before .before .before .before .args .n) (c .before .before .before .before .before .before .args .rows) (omega arith)) (c .examine-tables .ensures)
+returns-2 c =
+    let start = c .before .before .before .before .before .before .before in
+    rw (le-leb (start .args .n) (start .args .rows) (omega arith)) (c .examine-tables .ensures)
 
 pub refusal-spec : {M : Type 1} → statement M
 refusal-spec = tie.close (tie.spec returns (λ c κs. search needs) returns-2)
