@@ -13,11 +13,13 @@ mod follow;
 mod generate;
 mod held;
 mod lines;
+mod listed;
 mod load;
 mod lookups;
 mod newer;
 mod oracle;
 mod parents;
+mod permitted;
 #[cfg(feature = "port")]
 mod port;
 mod prefixes;
