@@ -461,9 +461,11 @@ fn one(
     let beside = &mut rng.beside();
     let refusal = under_allowance(subjects, file, &reading, &choices, beside)?;
     *counts.allowed.entry(refusal).or_default() += 1;
-    let refusal = for_list(subjects, &call, &reading, right, beside)?;
-    *counts.listed.entry(refusal).or_default() += 1;
-    counts.before_21 += u64::from(refusal == FORBIDDEN && right.refusal == 21);
+    if beside.one_in(2) {
+        let refusal = for_list(subjects, &call, &reading, right, beside)?;
+        *counts.listed.entry(refusal).or_default() += 1;
+        counts.before_21 += u64::from(refusal == FORBIDDEN && right.refusal == 21);
+    }
     Ok(())
 }
 

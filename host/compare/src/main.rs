@@ -10,6 +10,7 @@ mod examine;
 mod expected;
 mod fetch;
 mod follow;
+mod for_lists;
 mod generate;
 mod held;
 mod lines;

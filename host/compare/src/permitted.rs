@@ -193,8 +193,9 @@ impl Seen {
         }
     }
 
-    /// What is counted of a file that meets this for a list.
-    pub fn all(file: &[u8], rows: &Rows, list: &[u8], met: Met) -> BTreeSet<Seen> {
+    /// What is counted of a loaded file for a list.
+    pub fn all(file: &[u8], rows: &Rows, list: &[u8]) -> BTreeSet<Seen> {
+        let met = Met::of(file, rows, list);
         let contents = contents(file, rows);
         let mut seen = BTreeSet::new();
         let mut count = |what, yes| _ = yes && seen.insert(what);
