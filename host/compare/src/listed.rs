@@ -129,7 +129,7 @@ fn just(opcodes: &[u8]) -> Vec<u8> {
 pub fn groups() -> Vec<Group> {
     vec![
         Group {
-            name: "permitted opcodes, loaded, examined and followed",
+            name: "permitted opcodes, loaded and examined",
             files: [lists(), classes(), halves()]
                 .into_iter()
                 .flatten()

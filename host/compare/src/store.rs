@@ -1375,6 +1375,79 @@ mod tests {
     }
 
     #[test]
+    fn words_state_terms() {
+        for length in 0..=260 {
+            let terms = Terms {
+                allowance: Allowance::PREVIEW,
+                permitted: (1..=length).map(|byte| byte as u8).collect(),
+            };
+            let words = terms.words();
+            assert_eq!(words.len(), 3 + (length + 3) / 4);
+            assert_eq!(words[2], length as u32);
+            assert_eq!(Terms::of(&words), Ok(terms));
+            if length > 0 {
+                assert!(Terms::of(&words[..words.len() - 1]).is_err());
+            }
+        }
+        for allowance in [Allowance::DESKTOP, Allowance::PREVIEW] {
+            let terms = Terms::with_everything(allowance);
+            assert_eq!(Terms::of(&terms.words()), Ok(terms));
+        }
+        assert_eq!(Terms::default().words(), []);
+        assert_eq!(Terms::with_everything(Allowance::PREVIEW).words().len(), 2);
+    }
+
+    #[test]
+    fn a_replay_is_for_the_list_that_stands_last() {
+        let file = file_a();
+        let mut needed = vec![0; 62];
+        [needed[17], needed[61]] = [1, 2];
+        let mut store = Store::default();
+        store.bytes(1, &file);
+        let mut calls = Vec::new();
+        for (permitted, refusal) in [
+            (&needed[..], 0),
+            (&[], 32),
+            (&[1; 61], 32),
+            (&[1; 62], 0),
+            (&EVERYTHING, 0),
+        ] {
+            store.state(Terms {
+                allowance: Allowance::DESKTOP,
+                permitted: permitted.to_vec(),
+            });
+            calls.push(store.bytes.len());
+            let right = Answer {
+                refusal,
+                rows: of_records(u32::from(refusal == 0)),
+                visits: 0,
+            };
+            sample_again(&mut store, 7, &ONE_ROW, &file, right).unwrap();
+        }
+        store.bytes(6, b"all");
+        store.item(0, []);
+        let bytes = store.bytes;
+        let groups = Ok(vec![("all".to_owned(), 5)]);
+        assert_eq!(replay_items(&Model, &bytes), groups);
+        // The list's bytes stand before the call, two bytes of zeros behind them.
+        let list = calls[0] - 64;
+        for (place, other) in [
+            (list + 17, 0),
+            (list + 61, 0),
+            (list - 1, 61),
+            (list - 8 + 2, 0),
+        ] {
+            let mut changed = bytes.clone();
+            changed[place] = other;
+            assert!(replay_items(&Model, &changed).is_err(), "{place}");
+        }
+        let mut same = bytes.clone();
+        same[list + 17] = 255;
+        same[list + 62] = 1;
+        assert_eq!(replay_items(&Model, &same), groups);
+    }
+
+    #[test]
     fn a_replay_sees_every_number_of_examination_follow_and_lookup() {
         let file = file_a();
         let sizes = Sizes::of_rows([1, 0, 0, 0, 0, 0, 0, 0, 0]);
