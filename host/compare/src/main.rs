@@ -10,14 +10,17 @@ mod examine;
 mod expected;
 mod fetch;
 mod follow;
+mod for_lists;
 mod generate;
 mod held;
 mod lines;
+mod listed;
 mod load;
 mod lookups;
 mod newer;
 mod oracle;
 mod parents;
+mod permitted;
 #[cfg(feature = "port")]
 mod port;
 mod prefixes;

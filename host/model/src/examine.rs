@@ -161,7 +161,8 @@ fn steps(code: &[u8]) -> Result<Vec<Step>, Refusal> {
     Ok(steps)
 }
 
-fn examine_record(
+/// Examines a record of a loaded file by itself.
+pub fn examine_record(
     file: &[u8],
     permitted: &[u8],
     rows: &Rows,
