@@ -5,11 +5,14 @@
 pub mod build;
 pub mod json;
 
-use blotheath::{Place, examine, follow, load, locate};
+use blotheath::{Permitted, Place, examine, follow, load, locate};
 use std::fs;
 use std::io::Write;
 use std::path::{Path, PathBuf};
 use std::process::{Command, Stdio};
+
+/// Every opcode.
+pub const EVERYTHING: Permitted = Permitted::everything();
 
 /// The repository's own sample.
 pub fn sample() -> PathBuf {
