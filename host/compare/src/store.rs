@@ -1376,13 +1376,13 @@ mod tests {
 
     #[test]
     fn words_state_terms() {
-        for length in 0..=260 {
+        for length in 0..=260usize {
             let terms = Terms {
                 allowance: Allowance::PREVIEW,
                 permitted: (1..=length).map(|byte| byte as u8).collect(),
             };
             let words = terms.words();
-            assert_eq!(words.len(), 3 + (length + 3) / 4);
+            assert_eq!(words.len(), 3 + length.div_ceil(4));
             assert_eq!(words[2], length as u32);
             assert_eq!(Terms::of(&words), Ok(terms));
             if length > 0 {
@@ -1400,7 +1400,7 @@ mod tests {
     #[test]
     fn a_replay_is_for_the_list_that_stands_last() {
         let file = file_a();
-        let mut needed = vec![0; 62];
+        let mut needed = [0; 62];
         [needed[17], needed[61]] = [1, 2];
         let mut store = Store::default();
         store.bytes(1, &file);
