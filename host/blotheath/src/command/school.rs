@@ -4,7 +4,8 @@ use super::json::Json;
 use super::near::meant;
 use super::style::Style;
 use super::text;
-use blotheath::{Group, Opcode, Permitted, Step, UnknownName, opcode_name};
+use blotheath::{Group, Opcode, Pattern, Permitted, Step, UnknownName, opcode_name};
+use std::collections::BTreeSet;
 use std::fs::File;
 use std::io::{self, Read, Write};
 use std::path::{Path, PathBuf};
@@ -69,46 +70,68 @@ impl School {
         })
     }
 
-    /// What is permitted in words, with at most so many names, and the school's files.
+    /// What is permitted in words, with at most so many names, and the names of the school's files, without their folders.
     pub fn told(&self, most: usize) -> String {
         let told = told(&self.permitted, most);
-        match &self.files[..] {
-            [] => told,
-            files => {
-                let files: Vec<String> = files.iter().map(|path| text::path(path)).collect();
-                format!("{told} ({})", files.join(", "))
-            }
+        let files = self.files.iter().filter_map(|path| path.file_name());
+        let files: Vec<String> = files
+            .map(|name| text::escaped(name.as_encoded_bytes()))
+            .collect();
+        match files.is_empty() {
+            true => told,
+            false => format!("{told} ({})", files.join(", ")),
         }
     }
 
-    /// What of a step is not permitted.
-    pub fn forbidden(&self, step: &Step) -> Forbidden {
-        let opcodes = self.permitted.forbidden_of(step);
-        let names: Vec<&str> = opcodes.filter_map(opcode_name).collect();
+    /// What of a step of a pattern is not permitted.
+    pub fn forbidden(&self, pattern: &Pattern, step: &Step) -> Forbidden {
+        let opcodes: Vec<u8> = self.permitted.forbidden_of(step).collect();
+        let mut others = self.held(pattern);
+        others.retain(|opcode| !opcodes.contains(opcode));
         Forbidden {
-            hint: self.hint(&names),
-            names,
+            hint: self.hint(&names(&opcodes), &others),
+            opcodes,
+            others,
         }
     }
 
-    /// How to permit opcodes of these names.
-    fn hint(&self, names: &[&str]) -> String {
-        let option = format!("--permit {} behind the other options", names.join(","));
-        match self.files.last().filter(|_| self.ends_with_file) {
-            Some(file) => format!(
-                "to permit that, add {option}, or the line \"permit {}\" at the end of {}",
-                names.join(" "),
-                text::path(file)
-            ),
-            None => format!("to permit that, add {option}"),
+    /// What a pattern holds that is not permitted.
+    fn held(&self, pattern: &Pattern) -> Vec<u8> {
+        let records = 0..pattern.counts().records;
+        let steps = records.filter_map(|number| pattern.steps(number).ok());
+        let mut held = BTreeSet::new();
+        for step in steps.flatten().flatten() {
+            held.extend(self.permitted.forbidden_of(&step));
         }
+        held.into_iter().collect()
+    }
+
+    /// How to permit opcodes of these names, and which others a pattern holds that are not permitted.
+    fn hint(&self, names: &[&str], others: &[u8]) -> String {
+        let option = format!("--permit {} behind the other options", names.join(","));
+        let mut hint = format!("to permit that, add {option}");
+        if let Some(file) = self.files.last().filter(|_| self.ends_with_file) {
+            let (names, file) = (names.join(" "), text::path(file));
+            hint += &format!(", or the line \"permit {names}\" at the end of {file}");
+        }
+        if !others.is_empty() {
+            let others = listed(others, MOST_NAMES);
+            hint += &format!("; the file also holds {others}, not permitted either");
+        }
+        hint
     }
 }
 
-/// What of a step is not permitted, and how it would be.
+/// What of a step is not permitted, what else of its pattern is not, and how it would be.
 pub struct Forbidden {
-    pub names: Vec<&'static str>,
+    opcodes: Vec<u8>,
+    others: Vec<u8>,
     pub hint: String,
+}
+
+/// The names of opcodes.
+fn names(opcodes: &[u8]) -> Vec<&'static str> {
+    opcodes.iter().copied().filter_map(opcode_name).collect()
 }
 
 impl Order {
@@ -205,7 +228,7 @@ fn order_of(line: &str, from: &str) -> Result<Order, String> {
 }
 
 /// The most names that a line of text tells.
-const MOST_NAMES: usize = 8;
+const MOST_NAMES: usize = 12;
 
 /// What is permitted, in words: by what is forbidden or by what is permitted, whichever is shorter.
 fn told(permitted: &Permitted, most: usize) -> String {
@@ -221,8 +244,8 @@ fn told(permitted: &Permitted, most: usize) -> String {
 
 /// The first names, and how many there are besides.
 fn listed(opcodes: &[u8], most: usize) -> String {
-    let names = opcodes.iter().filter_map(|opcode| opcode_name(*opcode));
-    let listed = names.take(most).collect::<Vec<&str>>().join(", ");
+    let shown = &opcodes[..most.min(opcodes.len())];
+    let listed = names(shown).join(", ");
     match opcodes.len().saturating_sub(most) {
         0 => listed,
         more => format!("{listed} and {more} more"),
@@ -240,11 +263,7 @@ pub fn write(out: &mut dyn Write, style: Style, school: &School) -> io::Result<(
 
 /// What is permitted as a member of a JSON object.
 pub fn member(json: &mut Json, school: &School) -> io::Result<()> {
-    let forbidden: Vec<&str> = school
-        .permitted
-        .forbidden()
-        .filter_map(opcode_name)
-        .collect();
+    let forbidden: Vec<u8> = school.permitted.forbidden().collect();
     json.key("permitted")?.object(|json| {
         json.key("everything")?.boolean(forbidden.is_empty())?;
         names_member(json, "forbidden", &forbidden)?;
@@ -258,12 +277,14 @@ pub fn member(json: &mut Json, school: &School) -> io::Result<()> {
 /// What of a step is not permitted, as a member of a JSON object.
 pub fn forbidden_member(json: &mut Json, forbidden: &Forbidden) -> io::Result<()> {
     json.key("not_permitted")?.object(|json| {
-        names_member(json, "opcodes", &forbidden.names)?;
+        names_member(json, "opcodes", &forbidden.opcodes)?;
+        names_member(json, "others", &forbidden.others)?;
         json.key("hint")?.string(&forbidden.hint)
     })
 }
 
-fn names_member(json: &mut Json, key: &str, names: &[&str]) -> io::Result<()> {
+fn names_member(json: &mut Json, key: &str, opcodes: &[u8]) -> io::Result<()> {
+    let mut names = names(opcodes).into_iter();
     json.key(key)?
-        .array(|json| names.iter().try_for_each(|name| json.string(name)))
+        .array(|json| names.try_for_each(|name| json.string(name)))
 }

@@ -3,9 +3,9 @@
 use super::allowance::{self, excess_member};
 use super::input::Input;
 use super::json::Json;
-use super::school::{Forbidden, forbidden_member};
+use super::school::{Forbidden, School, forbidden_member};
 use super::text::{counted, grouped, visible};
-use blotheath::{Counts, Excess, Frame, NameWalk, Pattern, Place, Refusal, Step, looks_like};
+use blotheath::{Counts, Excess, Frame, NameWalk, Pattern, Place, Refusal, looks_like};
 use std::io;
 
 /// What examination says of a file.
@@ -36,16 +36,16 @@ pub fn judge(file: &Input) -> Verdict<'_> {
         false => None,
     };
     let place = file.locate(pattern.as_ref(), refusal);
-    let step = match refusal == NOT_PERMITTED {
-        true => pattern.as_ref().zip(place.as_ref()).and_then(step_at),
+    let forbidden = match refusal == NOT_PERMITTED {
+        true => forbidden(&file.terms.school, pattern.as_ref(), place.as_ref()),
         false => None,
     };
     Verdict::Refused {
         refusal,
+        place,
         looks_like: looks_like(&file.bytes),
         excess: file.excess(refusal),
-        forbidden: step.map(|step| file.terms.school.forbidden(&step)),
-        place,
+        forbidden,
         pattern,
     }
 }
@@ -53,10 +53,16 @@ pub fn judge(file: &Input) -> Verdict<'_> {
 /// The refusal of a file that holds what is not permitted.
 const NOT_PERMITTED: Refusal = Refusal(32);
 
-/// The step at a place.
-fn step_at((pattern, place): (&Pattern, &Place)) -> Option<Step> {
+/// What is not permitted at a place of a pattern.
+fn forbidden(
+    school: &School,
+    pattern: Option<&Pattern>,
+    place: Option<&Place>,
+) -> Option<Forbidden> {
+    let (pattern, place) = (pattern?, place?);
     let (record, offset) = (place.record?, place.offset?);
-    pattern.step_at(Frame { record, offset })
+    let step = pattern.step_at(Frame { record, offset })?;
+    Some(school.forbidden(pattern, &step))
 }
 
 impl<'a> Verdict<'a> {
