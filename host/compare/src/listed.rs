@@ -290,7 +290,7 @@ const OUT: [u8; 4] = [JMP, 0, 9, CALL];
 const NO_OPCODE: [u8; 1] = [UNKNOWN];
 const STRAY: [u8; 2] = [CALL, EXT1];
 
-/// Code that meets nothing, and the same with NOP.
+/// Code that meets nothing, without NOP and with it.
 const GOOD: [u8; 4] = [MOVE, 0, 1, CALL];
 const WITH_NOP: [u8; 2] = [NOP, CALL];
 

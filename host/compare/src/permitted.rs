@@ -300,7 +300,7 @@ pub enum Sort {
     Everything,
     /// All but one that the file needs.
     AllButOne,
-    /// All but one that the file does not need.
+    /// All but at most one, which the file does not need.
     AllButOther,
     /// Just what the file needs.
     Needed,

@@ -222,7 +222,6 @@ impl Store {
         Ok(())
     }
 
-    /// A load, an examination or the head of a follow.
     /// A load, an examination or the first numbers of a follow; an answer has eleven.
     fn call(&mut self, kind: u32, sizes: &Sizes, answer: [u32; 11], sum: u32) {
         let words = sizes.0.map(|words| words as u32);
@@ -497,26 +496,8 @@ fn allowed_samples(store: &mut Store) -> Result<(), String> {
 fn calls_under_allowances(store: &mut Store, allowed: &Allowed) -> Result<(), String> {
     for call in &allowed.calls {
         store.state(Terms::with_everything(call.allowance));
-        let sizes = call.sizes();
-        let kind = match &call.asked {
-            Asked::Load => 2,
-            Asked::Examination => 7,
-            Asked::Run(words, choices, right) => {
-                let right = Follow {
-                    refusal: call.refusal,
-                    numbers: if call.refusal == 0 { *right } else { [0; 6] },
-                };
-                sample_run(store, &sizes, *words, &allowed.file, choices, right)?;
-                continue;
-            }
-        };
-        let loads = u32::from(call.refusal == 0);
-        let right = Answer {
-            refusal: call.refusal,
-            rows: of_records(loads * allowed.records),
-            visits: 0,
-        };
-        sample_again(store, kind, &sizes, &allowed.file, right)?;
+        let right = (call.refusal, of_records(allowed.records));
+        sample_call(store, &call.asked, &call.sizes(), &allowed.file, right)?;
     }
     store.state(Terms::default());
     Ok(())
@@ -537,37 +518,45 @@ fn listed_samples(store: &mut Store) -> Result<(), String> {
 
 /// A file, and calls on it for lists over tables that fit.
 fn calls_for_lists(store: &mut Store, listed: &Listed) -> Result<(), String> {
-    let file = &listed.file;
-    let used = read_all(file).rows.used();
-    let sizes = Sizes::of_rows(used);
-    store.bytes(1, file);
+    let used = read_all(&listed.file).rows.used();
+    store.bytes(1, &listed.file);
     for call in &listed.calls {
         store.state(Terms {
             allowance: call.allowance,
             permitted: call.list.clone(),
         });
-        let is_refused = call.refusal != 0;
-        let kind = match &call.asked {
-            Asked::Load => 2,
-            Asked::Examination => 7,
-            Asked::Run(words, choices, right) => {
-                let right = Follow {
-                    refusal: call.refusal,
-                    numbers: if is_refused { [0; 6] } else { *right },
-                };
-                sample_run(store, &sizes, *words, file, choices, right)?;
-                continue;
-            }
-        };
-        let rows = if is_refused { [0; 9] } else { used };
-        let right = Answer {
-            refusal: call.refusal,
-            rows: rows.map(|rows| rows as u32),
-            visits: 0,
-        };
-        sample_again(store, kind, &sizes, file, right)?;
+        let right = (call.refusal, used.map(|rows| rows as u32));
+        let sizes = Sizes::of_rows(used);
+        sample_call(store, &call.asked, &sizes, &listed.file, right)?;
     }
     Ok(())
+}
+
+/// A call on the file that stands last, without LVAR: refused, or with these rows.
+fn sample_call(
+    store: &mut Store,
+    asked: &Asked,
+    sizes: &Sizes,
+    file: &[u8],
+    (refusal, used): (Refusal, [u32; 9]),
+) -> Result<(), String> {
+    let is_refused = refusal != 0;
+    let right = Answer {
+        refusal,
+        rows: if is_refused { [0; 9] } else { used },
+        visits: 0,
+    };
+    match asked {
+        Asked::Load => sample_again(store, 2, sizes, file, right),
+        Asked::Examination => sample_again(store, 7, sizes, file, right),
+        Asked::Run(words, choices, numbers) => {
+            let right = Follow {
+                refusal,
+                numbers: if is_refused { [0; 6] } else { *numbers },
+            };
+            sample_run(store, sizes, *words, file, choices, right)
+        }
+    }
 }
 
 /// A file that has nothing but records and names, loaded and examined over so many rows of records.
