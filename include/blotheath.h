@@ -4,8 +4,9 @@
    below. That is proved of the call's code; what a caller owes stands here.
 
    Slices. A slice is a pointer and the number of its elements, in memory that is there for the whole call and aligned for its type. No two slices
-   of one call overlap, those that are only read, as the file and the choices, no less than tables, frames and rows. A pointer may be NULL where
-   its number is 0: that is a file without bytes, a table without rows, no choices. What is lent to be filled may hold anything before the call.
+   of one call overlap, those that are only read, as the file, the permitted opcodes and the choices, no less than tables, frames and rows. A pointer
+   may be NULL where its number is 0: that is a file without bytes, a table without rows, no permitted opcode, no choices. What is lent to be filled
+   may hold anything before the call.
 
    Threads. Calls share nothing and keep nothing: any number of them may go on at once, as long as no slice that one of them writes is lent to
    another. Slices that are only read may be shared.
@@ -25,6 +26,15 @@
    refused by 14: with 70 rows lent a file of 100 records meets 29 under 64, with 64 rows lent 14. Under 1,024 records it is always 14.
    A file that is accepted under one allowance gives the same answer and the same rows, in tables of the same lengths, under every allowance that is
    nowhere smaller. An examination or a run is one of a file that loads under the allowance of its call: where the load is refused by 29, so are they.
+
+   Permitted opcodes. blotheath_examine and blotheath_follow are told, directly behind the allowance, which opcodes a file may hold: permitted has a
+   byte for each of the 119 opcodes (BLOTHEATH_OPCODES), byte n for opcode n, which is 0 for no and anything else for yes. A byte that is missing is
+   a no: a shorter list permits none of the opcodes behind its end, and NULL with length 0 permits nothing. Bytes behind the 119th are not read. To
+   permit everything, set all 119 to 1: the prefixes 115 to 117 and STOP, 118, with which a compiled pattern ends, are opcodes too.
+   Every instruction of every record is held against the list, one that no run reaches no less than others; bytes of operands are no opcodes. An
+   instruction with a prefix needs two yeses, that of its prefix and that of the opcode behind it. A file that holds what is not permitted is
+   refused by 32, and the run of a file that passes meets permitted opcodes only. Permitting more never turns a pass into a refusal; a file that was
+   refused by 32 may then pass, or meet another number, as 17. With everything permitted there is no 32. Loads take no list.
 
    Refusals. 0 is none, and no refusal is 0.
     1  the file has more than 65,536 bytes
@@ -59,9 +69,10 @@
    28  the file is cut short: it has fewer bytes than its header states
    29  the file has more bytes than its allowance, though at most 65,536; or a record that is read is one more than its allowance, though at most
        the 1,024th, and its lent table has a row for it
-   A load refuses by 1 to 14 and 27 to 29, an examination by 1 to 20, 25 and 27 to 29, follow by 1 to 21, 25 and 27 to 29, lookups by 22, fetch by
-   23 and 24. 1, 29 for bytes, 2, 27, 28, 3 and 4 are tested in this order; 5 to 14, and 29 for records in 14's place, are met where reading forward
-   meets them; the others stand with their calls. */
+   32  in a record, an opcode or a prefix that the list of permitted opcodes says no to
+   A load refuses by 1 to 14 and 27 to 29, an examination by 1 to 20, 25, 27 to 29 and 32, follow by 1 to 21, 25, 27 to 29 and 32, lookups by 22,
+   fetch by 23 and 24. 1, 29 for bytes, 2, 27, 28, 3 and 4 are tested in this order; 5 to 14, and 29 for records in 14's place, are met where reading
+   forward meets them; the others stand with their calls. */
 #ifndef BLOTHEATH_H
 #define BLOTHEATH_H
 
@@ -77,6 +88,9 @@ extern "C" {
 #define BLOTHEATH_DESKTOP_RECORDS 1024
 #define BLOTHEATH_PREVIEW_BYTES 16384
 #define BLOTHEATH_PREVIEW_RECORDS 64
+
+/* How many opcodes there are, and how many bytes of a list of permitted ones are read. */
+#define BLOTHEATH_OPCODES 119
 
 /* The answer of a load or an examination: the refusal's number, and then every count is 0; or 0, the rows used of each table, and the visits that
    the walk over the local names (LVAR) made. The walk visits record 0 and then, of each record that it visits, as many children as its row says
@@ -197,9 +211,10 @@ BlotheathLoaded blotheath_load_records(const uint8_t *file, size_t file_len,
                                        uint32_t *lines, size_t lines_len,
                                        BlotheathRecord *rows, size_t rows_len);
 
-/* Examines a file: loads it as above, then tests it: 15 first, then record by record 16 and 25 in one reading of its instructions, 17 and 18 at each
-   instruction in turn, 19, 20. A file that loads passes where it meets none of 15 to 20 and 25. The answer and the tables are those of a load; after
-   a refusal every table is zero throughout.
+/* Examines a file: loads it as above, then tests it: 15 first, then record by record 16 and 25 in one reading of its instructions, 32 at all of them,
+   17 and 18 at each instruction in turn, 19, 20. So 32 at a record's last instruction comes before 17 or 18 at its first, and behind every number of
+   the records before it. A file that loads passes where it meets none of 15 to 20, 25 and 32. The answer and the tables are those of a load; after a
+   refusal every table is zero throughout.
 
    Instructions. The first one of a record begins at offset 0, and each begins where the one before it ends. An instruction is its opcode and
    operands, of the kinds that stand with blotheath_fetch, or a prefix opcode and these behind it; it begins at its prefix. 115 widens the first
@@ -217,6 +232,7 @@ BlotheathLoaded blotheath_load_records(const uint8_t *file, size_t file_len,
    b+1 to b+c-1     ARRAY2 */
 BlotheathLoaded blotheath_examine(const uint8_t *file, size_t file_len,
                                   uint32_t max_bytes, uint32_t max_records,
+                                  const uint8_t *permitted, size_t permitted_len,
                                   uint32_t *records, size_t records_len,
                                   uint32_t *handlers, size_t handlers_len,
                                   uint32_t *pool, size_t pool_len,
@@ -227,7 +243,7 @@ BlotheathLoaded blotheath_examine(const uint8_t *file, size_t file_len,
                                   uint32_t *files, size_t files_len,
                                   uint32_t *lines, size_t lines_len);
 
-/* Where a run stands. refusal: 0, or one of 1 to 21, 25 and 27 to 29. finished: 1 where the run is finished, and then all else is 0. Else the top
+/* Where a run stands. refusal: 0, or one of 1 to 21, 25, 27 to 29 and 32. finished: 1 where the run is finished, and then all else is 0. Else the top
    frame's record and offset, its line where found is 1, and the number of frames. The offset is where an instruction begins, at its prefix where it
    has one. */
 typedef struct {
@@ -247,6 +263,7 @@ typedef struct {
    frames, lowest first, then zeros. After a refusal every table, frames too, is zero throughout. */
 BlotheathFollowed blotheath_follow(const uint8_t *file, size_t file_len,
                                    uint32_t max_bytes, uint32_t max_records,
+                                   const uint8_t *permitted, size_t permitted_len,
                                    uint32_t *records, size_t records_len,
                                    uint32_t *handlers, size_t handlers_len,
                                    uint32_t *pool, size_t pool_len,

@@ -1,7 +1,8 @@
 //! Allowances: how many bytes and records a file may have, and how far a file is beyond that.
 
 use crate::FILE_LIMIT;
-use crate::pattern::{examine, load};
+use crate::pattern::{examine_within, load};
+use crate::permitted::Permitted;
 use crate::refusal::Refusal;
 use crate::tables::RECORD_LIMIT;
 
@@ -76,10 +77,15 @@ impl Excess {
         })
     }
 
-    /// That of an examination or a run under an allowance, by its refusal; none where that is not 29.
-    pub fn of_examination(file: &[u8], allowance: Allowance, refusal: Refusal) -> Option<Excess> {
+    /// That of an examination or a run under an allowance for permitted opcodes, by its refusal; none where that is not 29.
+    pub fn of_examination(
+        file: &[u8],
+        allowance: Allowance,
+        permitted: &Permitted,
+        refusal: Refusal,
+    ) -> Option<Excess> {
         (refusal == BEYOND).then(|| {
-            let desktop = match examine(file) {
+            let desktop = match examine_within(file, Allowance::DESKTOP, permitted) {
                 Ok(_) => Desktop::Passes,
                 Err(refusal) => Desktop::Refuses(refusal),
             };

@@ -70,18 +70,26 @@ pub fn load_records(
     loaded
 }
 
-pub fn examine(file: &[u8], allowance: Allowance, words: &mut Words) -> BlotheathLoaded {
-    give(model::examine(file, of(allowance), &take(words)), words)
+pub fn examine(
+    file: &[u8],
+    allowance: Allowance,
+    permitted: &[u8],
+    words: &mut Words,
+) -> BlotheathLoaded {
+    let loaded = model::examine(file, of(allowance), permitted, &take(words));
+    give(loaded, words)
 }
 
 pub fn follow(
     file: &[u8],
     allowance: Allowance,
+    permitted: &[u8],
     words: &mut Words,
     frames: &mut [u32],
     choices: &[u8],
 ) -> BlotheathFollowed {
-    let followed = model::follow(file, of(allowance), &take(words), frames.len(), choices);
+    let (lent, frame_words) = (take(words), frames.len());
+    let followed = model::follow(file, of(allowance), permitted, &lent, frame_words, choices);
     frames.copy_from_slice(&followed.frame_table);
     let (record, offset) = followed.top.unwrap_or_default();
     let loaded = give(followed.loaded, words);

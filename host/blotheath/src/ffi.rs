@@ -66,6 +66,8 @@ unsafe extern "C" {
         file_len: usize,
         max_bytes: u32,
         max_records: u32,
+        permitted: *const u8,
+        permitted_len: usize,
         records: *mut u32,
         records_len: usize,
         handlers: *mut u32,
@@ -90,6 +92,8 @@ unsafe extern "C" {
         file_len: usize,
         max_bytes: u32,
         max_records: u32,
+        permitted: *const u8,
+        permitted_len: usize,
         records: *mut u32,
         records_len: usize,
         handlers: *mut u32,
@@ -277,8 +281,13 @@ pub fn load_records(
     }
 }
 
-/// Loads a file under an allowance, over lent tables, and examines it.
-pub fn examine(file: &[u8], allowance: Allowance, words: &mut Words) -> BlotheathLoaded {
+/// Loads a file under an allowance, over lent tables, and examines it for a list of permitted opcodes, which may be of any length.
+pub fn examine(
+    file: &[u8],
+    allowance: Allowance,
+    permitted: &[u8],
+    words: &mut Words,
+) -> BlotheathLoaded {
     let [
         records,
         handlers,
@@ -297,6 +306,8 @@ pub fn examine(file: &[u8], allowance: Allowance, words: &mut Words) -> Blotheat
             file.len(),
             allowance.bytes,
             allowance.records,
+            permitted.as_ptr(),
+            permitted.len(),
             records.as_mut_ptr(),
             records.len(),
             handlers.as_mut_ptr(),
@@ -319,10 +330,11 @@ pub fn examine(file: &[u8], allowance: Allowance, words: &mut Words) -> Blotheat
     }
 }
 
-/// Loads and examines a file under an allowance, then runs it along a list of choices.
+/// Loads and examines a file under an allowance, for a list of permitted opcodes, then runs it along a list of choices.
 pub fn follow(
     file: &[u8],
     allowance: Allowance,
+    permitted: &[u8],
     words: &mut Words,
     frames: &mut [u32],
     choices: &[u8],
@@ -345,6 +357,8 @@ pub fn follow(
             file.len(),
             allowance.bytes,
             allowance.records,
+            permitted.as_ptr(),
+            permitted.len(),
             records.as_mut_ptr(),
             records.len(),
             handlers.as_mut_ptr(),

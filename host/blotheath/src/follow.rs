@@ -2,6 +2,7 @@
 
 use crate::allowance::Allowance;
 use crate::ffi;
+use crate::permitted::Permitted;
 use crate::refusal::Refusal;
 use crate::tables::{self, RECORD_LIMIT};
 
@@ -73,20 +74,22 @@ pub enum Standing {
     },
 }
 
-/// Examines a file under the desktop's allowance and runs it along the bytes of a list of choices.
+/// Examines a file under the desktop's allowance, every opcode being permitted, and runs it along the bytes of a list of choices.
 pub fn follow(file: &[u8], choices: &[u8]) -> Result<Standing, Refusal> {
-    follow_within(file, Allowance::DESKTOP, choices)
+    follow_within(file, Allowance::DESKTOP, &Permitted::everything(), choices)
 }
 
-/// Examines a file under an allowance and runs it along the bytes of a list of choices.
+/// Examines a file under an allowance for permitted opcodes and runs it along the bytes of a list of choices.
 pub fn follow_within(
     file: &[u8],
     allowance: Allowance,
+    permitted: &Permitted,
     choices: &[u8],
 ) -> Result<Standing, Refusal> {
     let mut frames = vec![0; 2 * RECORD_LIMIT];
     let (_, followed) = tables::lend(file, |words| {
-        let followed = ffi::follow(file, allowance, words, &mut frames, choices);
+        let permitted = permitted.as_bytes();
+        let followed = ffi::follow(file, allowance, permitted, words, &mut frames, choices);
         (followed.refusal, followed)
     });
     Refusal::of(followed.refusal)?;

@@ -1,6 +1,9 @@
 //! Blotheath for Rust programs: load, examine and follow `.mrb` pattern files, and look up what they hold.
 //!
 //! The answers are those of the proved archive libblotheath.a; [`PROVED`] says whether this build has it.
+//!
+//! [`load`], [`examine`] and [`follow`] go by the desktop's allowance, and the last two permit every opcode. [`load_within`], [`examine_within`] and
+//! [`follow_within`] take an [`Allowance`] behind the file, and the last two [`Permitted`] opcodes behind it.
 
 #![deny(unsafe_code)]
 
@@ -12,12 +15,14 @@ pub mod ffi;
 #[path = "by_model.rs"]
 pub mod ffi;
 mod follow;
+mod groups;
 mod hint;
 mod identity;
 mod locate;
 mod opcode;
 mod opcodes;
 mod pattern;
+mod permitted;
 mod refusal;
 mod registers;
 mod run;
@@ -28,6 +33,7 @@ mod walk;
 
 pub use allowance::{Allowance, Desktop, Excess, Limit};
 pub use follow::{Choice, Frame, Standing, bytes_of, follow, follow_within};
+pub use groups::{Group, opcodes_named};
 pub use hint::looks_like;
 pub use identity::{DOUBT, IDENTITY, Identity, PROVED};
 pub use locate::{Place, locate, locate_within};
@@ -37,6 +43,7 @@ pub use pattern::{
     Constant, Counts, DebugFile, Entry, Handler, Pattern, Record, Sources, Span, Text, examine,
     examine_within, line_at, load, load_within,
 };
+pub use permitted::{Permitted, UnknownName};
 pub use refusal::Refusal;
 pub use registers::Registers;
 pub use run::{Before, Run};

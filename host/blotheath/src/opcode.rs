@@ -57,11 +57,12 @@ pub fn name(opcode: u8) -> Option<&'static str> {
     NAMES.get(usize::from(opcode)).copied()
 }
 
-/// The opcode of a name.
-#[cfg(test)]
-pub fn byte_of(name: &str) -> u8 {
-    let opcode = NAMES.iter().position(|known| *known == name);
-    opcode.unwrap() as u8
+/// The opcode of a name, in letters of any case.
+pub fn byte_of(name: &str) -> Option<u8> {
+    let place = NAMES
+        .iter()
+        .position(|known| known.eq_ignore_ascii_case(name))?;
+    u8::try_from(place).ok()
 }
 
 /// The roles of an opcode's operands.
@@ -122,7 +123,7 @@ pub fn flow(opcode: u8) -> Flow {
 
 /// The names of the opcodes 0 to 118.
 #[rustfmt::skip]
-const NAMES: [&str; 119] = [
+pub const NAMES: [&str; 119] = [
     "NOP", "MOVE", "LOADL", "LOADI", "LOADINEG", "LOADI__1", "LOADI_0", "LOADI_1",
     "LOADI_2", "LOADI_3", "LOADI_4", "LOADI_5", "LOADI_6", "LOADI_7", "LOADI16", "LOADI32",
     "LOADSYM", "LOADNIL", "LOADSELF", "LOADT", "LOADF", "GETGV", "SETGV", "GETSV",

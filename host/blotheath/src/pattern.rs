@@ -3,6 +3,7 @@
 use crate::allowance::Allowance;
 use crate::answer::{BlotheathLoaded, NO_PARENT};
 use crate::ffi;
+use crate::permitted::Permitted;
 use crate::refusal::Refusal;
 use crate::step::Steps;
 use crate::tables::{self, FILENAMES, LINES, POOL, RECORDS, ROW_WORDS, STRINGS, Words};
@@ -169,26 +170,31 @@ pub fn load(file: &[u8]) -> Result<Pattern<'_>, Refusal> {
 
 /// Loads a file under an allowance.
 pub fn load_within(file: &[u8], allowance: Allowance) -> Result<Pattern<'_>, Refusal> {
-    answered(file, allowance, ffi::load)
+    answered(file, |words| ffi::load(file, allowance, words))
 }
 
-/// Loads a file under the desktop's allowance and examines it.
+/// Loads a file under the desktop's allowance and examines it, every opcode being permitted.
 pub fn examine(file: &[u8]) -> Result<Pattern<'_>, Refusal> {
-    examine_within(file, Allowance::DESKTOP)
+    examine_within(file, Allowance::DESKTOP, &Permitted::everything())
 }
 
-/// Loads a file under an allowance and examines it.
-pub fn examine_within(file: &[u8], allowance: Allowance) -> Result<Pattern<'_>, Refusal> {
-    answered(file, allowance, ffi::examine)
+/// Loads a file under an allowance and examines it for permitted opcodes.
+pub fn examine_within<'a>(
+    file: &'a [u8],
+    allowance: Allowance,
+    permitted: &Permitted,
+) -> Result<Pattern<'a>, Refusal> {
+    answered(file, |words| {
+        ffi::examine(file, allowance, permitted.as_bytes(), words)
+    })
 }
 
 fn answered(
     file: &[u8],
-    allowance: Allowance,
-    call: impl Fn(&[u8], Allowance, &mut Words) -> BlotheathLoaded,
+    call: impl Fn(&mut Words) -> BlotheathLoaded,
 ) -> Result<Pattern<'_>, Refusal> {
     let (words, loaded) = tables::lend(file, |words| {
-        let loaded = call(file, allowance, words);
+        let loaded = call(words);
         (loaded.refusal, loaded)
     });
     Refusal::of(loaded.refusal)?;

@@ -49,6 +49,7 @@ const REFUSALS: &[(u32, By, &str)] = &[
     (27, Loading, "the file is not a compiled pattern: it does not begin with RITE"),
     (28, Loading, "the file is cut short: it has fewer bytes than its header states"),
     (29, Loading, "the file has more bytes or more records than its allowance"),
+    (32, Examination, "a step has an opcode or a prefix that is not permitted"),
 ];
 
 impl Refusal {
@@ -120,7 +121,7 @@ mod tests {
 
     #[test]
     fn numbers_without_a_sentence_say_so() {
-        for number in [0, 26, 30, u32::MAX] {
+        for number in [0, 26, 30, 31, 33, u32::MAX] {
             let refusal = Refusal(number);
             assert_eq!(refusal.sentence(), "no such refusal");
             assert!(!refusal.is_of_loading() && !refusal.is_of_examination());
@@ -145,7 +146,7 @@ mod tests {
         assert_eq!(numbers(Refusal::is_of_loading), loading);
         assert_eq!(
             numbers(Refusal::is_of_examination),
-            [15, 16, 17, 18, 19, 20, 25]
+            [15, 16, 17, 18, 19, 20, 25, 32]
         );
     }
 }

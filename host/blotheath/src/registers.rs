@@ -107,7 +107,7 @@ mod tests {
     }
 
     fn shown(name: &str, operands: [u32; 3]) -> String {
-        let step = step(byte_of(name), operands);
+        let step = step(byte_of(name).unwrap(), operands);
         let registers: Vec<String> = step.registers().map(|one| one.to_string()).collect();
         registers.join(", ")
     }

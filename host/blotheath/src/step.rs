@@ -344,7 +344,7 @@ mod tests {
     }
 
     fn by_name(prefix: Option<u8>, name: &str) -> Step {
-        step(prefix, byte_of(name)).unwrap()
+        step(prefix, byte_of(name).unwrap()).unwrap()
     }
 
     /// Every opcode that is no prefix, behind each prefix and without one.

@@ -7,7 +7,9 @@ use blotheath::tables::{RECORD_LIMIT, RECORDS, Words, rows, zeros};
 use blotheath::*;
 use common::build::{self, STOP};
 use common::json::{Value, parse};
-use common::{Folder, Numbers, Ran, damaged, files, run, run_in_64_mb, run_with, sample_bytes};
+use common::{
+    EVERYTHING, Folder, Numbers, Ran, damaged, files, run, run_in_64_mb, run_with, sample_bytes,
+};
 use std::fs;
 
 const ALL: u32 = u32::MAX;
@@ -42,8 +44,14 @@ fn of_length(length: usize) -> Vec<u8> {
 fn number(file: &[u8], allowance: Allowance) -> u32 {
     let of = |refusal: Option<Refusal>| refusal.map_or(0, Refusal::number);
     let loaded = of(load_within(file, allowance).err());
-    assert_eq!(of(examine_within(file, allowance).err()), loaded);
-    assert_eq!(of(follow_within(file, allowance, &[]).err()), loaded);
+    assert_eq!(
+        of(examine_within(file, allowance, &EVERYTHING).err()),
+        loaded
+    );
+    assert_eq!(
+        of(follow_within(file, allowance, &EVERYTHING, &[]).err()),
+        loaded
+    );
     loaded
 }
 
@@ -119,7 +127,7 @@ fn nothing_is_within_every_allowance() {
     );
     // Without a record there is no whole tree.
     assert_eq!(
-        examine_within(&none, within(length, 0)).unwrap_err(),
+        examine_within(&none, within(length, 0), &EVERYTHING).unwrap_err(),
         Refusal(15)
     );
 }
@@ -235,10 +243,13 @@ fn answered(file: &[u8], allowance: Allowance, lent: usize) -> ([u32; 4], Words)
     let none = BlotheathRecord::default();
     assert!(filled == 0 || structs.iter().all(|row| *row == none));
     let mut words = garbage(file, lent);
-    let examined = checked(ffi::examine(file, allowance, &mut words), &words);
+    let permitted = EVERYTHING.as_bytes();
+    let examined = ffi::examine(file, allowance, permitted, &mut words);
+    let examined = checked(examined, &words);
     let mut words = garbage(file, lent);
     let mut frames = vec![9; 2 * RECORD_LIMIT];
-    let followed = ffi::follow(file, allowance, &mut words, &mut frames, &[]).refusal;
+    let followed = ffi::follow(file, allowance, permitted, &mut words, &mut frames, &[]);
+    let followed = followed.refusal;
     let is_empty = is_clear(&words) && frames.iter().all(|word| *word == 0);
     assert!(followed == 0 || is_empty);
     ([load, filled, examined, followed], loaded)
@@ -349,7 +360,10 @@ fn the_model_answers_alike() {
 
 #[test]
 fn places() {
-    let place = |file: &[u8], allowance| locate_within(file, allowance, None, Refusal(29)).unwrap();
+    let locate = |file: &[u8], allowance, refusal| {
+        locate_within(file, allowance, &EVERYTHING, None, refusal)
+    };
+    let place = |file: &[u8], allowance| locate(file, allowance, Refusal(29)).unwrap();
     let found = place(&of_length(20_000), Allowance::PREVIEW);
     assert_eq!(
         (found.section, found.byte, found.record),
@@ -383,7 +397,7 @@ fn places() {
         (sample_bytes()[..300].to_vec(), Allowance::PREVIEW, 28),
     ] {
         for refusal in Refusal::all() {
-            let place = locate_within(&file, allowance, None, refusal);
+            let place = locate(&file, allowance, refusal);
             assert_eq!(place.is_some(), refusal.number() == right, "{refusal}");
         }
     }
@@ -396,7 +410,7 @@ fn how_far_a_file_is_beyond_its_allowance() {
         let refusal = load_within(file, allowance).err().unwrap_or(Refusal(0));
         (
             Excess::of_load(file, allowance, refusal),
-            Excess::of_examination(file, allowance, refusal),
+            Excess::of_examination(file, allowance, &EVERYTHING, refusal),
         )
     };
     let refused = |number| Desktop::Refuses(Refusal(number));

@@ -9,6 +9,10 @@
 #define PREVIEW BLOTHEATH_PREVIEW_BYTES, BLOTHEATH_PREVIEW_RECORDS
 #define NO_TABLES NONE, NONE, NONE, NONE, NONE, NONE, NONE, NONE, NONE
 
+/* A yes for each opcode. */
+static uint8_t everything[BLOTHEATH_OPCODES];
+#define EVERYTHING LENT(everything)
+
 static int wrong = 0;
 
 static void hold(int good, const char *what) {
@@ -51,7 +55,7 @@ static uint32_t examined_adding(uint8_t a) {
     memcpy(changed, file, sizeof changed);
     changed[CODE] = 69;
     changed[CODE + 1] = a;
-    return blotheath_examine(LENT(changed), DESKTOP, LENT(records), NONE, NONE, NONE, NONE, NONE, NONE, NONE, NONE).refusal;
+    return blotheath_examine(LENT(changed), DESKTOP, EVERYTHING, LENT(records), NONE, NONE, NONE, NONE, NONE, NONE, NONE, NONE).refusal;
 }
 
 /* The file with two constants: the text "a\0b", and 123456789012 in eight bytes. */
@@ -103,13 +107,13 @@ static uint32_t examined_with(size_t offset, uint8_t byte) {
     uint32_t records[BLOTHEATH_RECORD_WORDS];
     memcpy(changed, prefixed, sizeof changed);
     changed[PREFIXED_CODE + offset] = byte;
-    return blotheath_examine(LENT(changed), DESKTOP, LENT(records), NONE, NONE, NONE, NONE, NONE, NONE, NONE, NONE).refusal;
+    return blotheath_examine(LENT(changed), DESKTOP, EVERYTHING, LENT(records), NONE, NONE, NONE, NONE, NONE, NONE, NONE, NONE).refusal;
 }
 
 /* Where a run of the record stands after so many choices. */
 static uint32_t gone_to(size_t choices) {
     uint32_t records[BLOTHEATH_RECORD_WORDS], frames[2];
-    BlotheathFollowed at = blotheath_follow(LENT(prefixed), DESKTOP, LENT(records), NONE, NONE, NONE, NONE, NONE, NONE, NONE, NONE,
+    BlotheathFollowed at = blotheath_follow(LENT(prefixed), DESKTOP, EVERYTHING, LENT(records), NONE, NONE, NONE, NONE, NONE, NONE, NONE, NONE,
                                             LENT(frames), go_on, choices);
     return at.refusal == 0 ? at.offset : UINT32_MAX;
 }
@@ -160,9 +164,9 @@ static void hold_parents(void) {
 static uint32_t answered(uint32_t max_bytes, uint32_t max_records, size_t rows) {
     uint32_t records[3 * BLOTHEATH_RECORD_WORDS], symbols[2], frames[2 * 2];
     BlotheathRecord structs[2];
-    uint32_t followed = blotheath_follow(LENT(definition), max_bytes, max_records, LENT_ROWS, LENT(frames), LENT(enter)).refusal;
+    uint32_t followed = blotheath_follow(LENT(definition), max_bytes, max_records, EVERYTHING, LENT_ROWS, LENT(frames), LENT(enter)).refusal;
     uint32_t filled = blotheath_load_records(LENT(definition), max_bytes, max_records, LENT_ROWS, LENT(structs)).refusal;
-    uint32_t examined = blotheath_examine(LENT(definition), max_bytes, max_records, LENT_ROWS).refusal;
+    uint32_t examined = blotheath_examine(LENT(definition), max_bytes, max_records, EVERYTHING, LENT_ROWS).refusal;
     uint32_t loaded = blotheath_load(LENT(definition), max_bytes, max_records, LENT_ROWS).refusal;
     hold(followed == loaded && filled == loaded && examined == loaded, "the four calls answer alike under an allowance");
     hold((records[0] != 0) == (loaded == 0), "after a refusal by the allowance the tables are zero");
@@ -190,16 +194,96 @@ static void hold_allowances(void) {
     hold(memcmp(records, again, sizeof records) == 0, "the same rows under both");
 }
 
+/* Opcodes by their numbers. */
+enum { LOADI = 3, RESCUE = 44, LOADNIL = 17, RETURN = 61, RETSELF = 63, CLASS = 103, TDEF = 107, EXT1 = 115, EXT2, EXT3, STOP };
+
+/* The place of the second record's instruction in the two records. */
+#define SECOND_CODE 76
+
+/* What an examination answers for a list of permitted opcodes; a run answers the same. */
+static uint32_t examined_for(const uint8_t *bytes, size_t length, const uint8_t *permitted, size_t permitted_len) {
+    uint32_t records[2 * BLOTHEATH_RECORD_WORDS], symbols[2], frames[2 * 2];
+    uint32_t followed = blotheath_follow(bytes, length, DESKTOP, permitted, permitted_len, LENT(records), NONE, NONE, LENT(symbols), NONE, NONE,
+                                         NONE, NONE, NONE, LENT(frames), enter, sizeof enter)
+                            .refusal;
+    hold(followed == 0 || frames[1] == 0, "after a refusal the frames are zero");
+    uint32_t examined = blotheath_examine(bytes, length, DESKTOP, permitted, permitted_len, LENT(records), NONE, NONE, LENT(symbols), NONE, NONE,
+                                          NONE, NONE, NONE)
+                            .refusal;
+    hold(followed == examined, "both calls answer alike for a list");
+    hold((records[0] != 0) == (examined == 0), "after a refusal the tables are zero");
+    return examined;
+}
+
+/* What they answer for every opcode but one. */
+static uint32_t examined_without(const uint8_t *bytes, size_t length, uint8_t opcode) {
+    uint8_t permitted[BLOTHEATH_OPCODES];
+    memcpy(permitted, everything, sizeof permitted);
+    permitted[opcode] = 0;
+    return examined_for(bytes, length, LENT(permitted));
+}
+
+static void hold_lists(void) {
+    uint8_t longer[200] = {0}, other[BLOTHEATH_OPCODES] = {0};
+    memset(longer, 255, BLOTHEATH_OPCODES);
+    hold(examined_for(LENT(file), NONE) == 32 && examined_for(LENT(file), everything, 0) == 32, "an empty list permits nothing");
+    hold(examined_for(LENT(file), everything, RETURN) == 32, "an opcode behind the end of a list");
+    hold(examined_for(LENT(file), everything, RETURN + 1) == 0, "the last opcode of a list");
+    hold(examined_for(LENT(file), LENT(longer)) == 0, "every byte but 0 is a yes, and none behind the 119th is read");
+    memset(longer + BLOTHEATH_OPCODES, 1, sizeof longer - BLOTHEATH_OPCODES);
+    longer[LOADNIL] = 0;
+    hold(examined_for(LENT(file), LENT(longer)) == 32, "nor helps one there");
+    other[LOADNIL] = 1;
+    other[RETURN] = 128;
+    hold(examined_for(LENT(file), LENT(other)) == 0, "what a file holds is enough");
+    hold(examined_for(LENT(prefixed), EVERYTHING) == 0, "everything permits prefixes");
+    hold(examined_for(LENT(prefixed), everything, EXT1) == 32, "115 yeses permit no prefix, and not STOP");
+    hold(examined_without(LENT(prefixed), EXT2) == 32, "an instruction with a prefix needs a yes for the prefix");
+    hold(examined_without(LENT(prefixed), LOADI) == 32, "and one for its opcode");
+    hold(examined_without(LENT(prefixed), EXT3) == 0, "a prefix that the file does not hold");
+    hold(examined_without(LENT(prefixed), RESCUE) == 0, "a byte of an operand is no opcode");
+    hold(examined_without(LENT(definition), TDEF) == 32, "an opcode that the file holds");
+    hold(examined_without(LENT(definition), CLASS) == 0, "one that it does not hold");
+}
+
+static void hold_order_of_lists(void) {
+    uint8_t changed[sizeof definition], cut[sizeof prefixed];
+    uint32_t records[2 * BLOTHEATH_RECORD_WORDS], symbols[2], frames[2 * 2];
+    static const uint8_t unknown[1] = {5};
+    memcpy(changed, definition, sizeof changed);
+    changed[CHILD] = 1;
+    hold(examined_without(LENT(changed), STOP) == 32, "32 at a later instruction comes before 17");
+    changed[SECOND_CODE] = RETSELF;
+    hold(examined_without(LENT(changed), RETSELF) == 17, "17 of an earlier record comes before 32");
+    changed[CHILD] = 0;
+    hold(examined_without(LENT(changed), RETSELF) == 32 && examined_without(LENT(changed), STOP) == 32, "32 in each record");
+    memcpy(cut, prefixed, sizeof cut);
+    cut[PREFIXED_CODE + AT_STOP] = EXT1;
+    hold(examined_for(LENT(cut), NONE) == 25, "25 comes before 32");
+    cut[PREFIXED_CODE + AT_STOP] = STOP + 1;
+    hold(examined_for(LENT(cut), NONE) == 16, "16 comes before 32");
+    changed[DEFINITION_CHILDREN + 1] = 0;
+    hold(examined_for(LENT(changed), NONE) == 15, "15 comes before 32");
+    BlotheathFollowed at = blotheath_follow(LENT(definition), DESKTOP, NONE, LENT(records), NONE, NONE, LENT(symbols), NONE, NONE, NONE, NONE, NONE,
+                                            frames, 2, LENT(unknown));
+    hold(at.refusal == 14, "too few frames come before 32");
+    at = blotheath_follow(LENT(definition), DESKTOP, NONE, LENT(records), NONE, NONE, LENT(symbols), NONE, NONE, NONE, NONE, NONE, LENT(frames),
+                          LENT(unknown));
+    hold(at.refusal == 32, "32 comes before a choice of an unknown kind");
+    hold(blotheath_examine(LENT(definition), 0, 0, NONE, NO_TABLES).refusal == 29, "a load's refusal comes before 32");
+}
+
 int main(void) {
     uint32_t records[2 * BLOTHEATH_RECORD_WORDS], pool[6], symbols[2], frames[2 * 2];
     BlotheathRecord row[1];
     uint8_t other[sizeof file] = {0}, missing[sizeof definition];
 
+    memset(everything, 1, sizeof everything);
     hold(blotheath_load(NONE, DESKTOP, NO_TABLES).refusal == 2, "a file without bytes is refused by 2");
     hold(blotheath_load(LENT(file), DESKTOP, NO_TABLES).refusal == 14, "without tables a record's row has no place");
     hold(blotheath_load_records(NONE, DESKTOP, NO_TABLES, NONE).refusal == 2, "no rows are filled");
-    hold(blotheath_examine(NONE, DESKTOP, NO_TABLES).refusal == 2, "the same examined");
-    hold(blotheath_follow(NONE, DESKTOP, NO_TABLES, NONE, NONE).refusal == 2, "the same followed");
+    hold(blotheath_examine(NONE, DESKTOP, EVERYTHING, NO_TABLES).refusal == 2, "the same examined");
+    hold(blotheath_follow(NONE, DESKTOP, EVERYTHING, NO_TABLES, NONE, NONE).refusal == 2, "the same followed");
     hold(blotheath_load(LENT(other), DESKTOP, NO_TABLES).refusal == 27, "a file that does not begin with RITE");
     hold(blotheath_load(file, sizeof file - 1, DESKTOP, NO_TABLES).refusal == 28, "a file that is cut short");
 
@@ -209,10 +293,10 @@ int main(void) {
     hold(loaded.visits == 0, "without LVAR there is no visit");
     hold(visits_of(0) == 1 && visits_of(3) == 4 && visits_of(65535) == 65536, "a visit of record 0, and one for each child");
     hold(row[0].size == 24 && row[0].ilen == 4 && row[0].nlines == 0, "the row is the record's");
-    BlotheathFollowed at = blotheath_follow(LENT(file), DESKTOP, LENT(records), NONE, NONE, NONE, NONE, NONE, NONE, NONE, NONE,
+    BlotheathFollowed at = blotheath_follow(LENT(file), DESKTOP, EVERYTHING, LENT(records), NONE, NONE, NONE, NONE, NONE, NONE, NONE, NONE,
                                             LENT(frames), NONE);
     hold(at.refusal == 0 && at.finished == 0 && at.frames == 1 && at.offset == 0, "without choices a run stands at its start");
-    hold(blotheath_examine(LENT(file), DESKTOP, LENT(records), NONE, NONE, NONE, NONE, NONE, NONE, NONE, NONE).refusal == 0, "it passes");
+    hold(blotheath_examine(LENT(file), DESKTOP, EVERYTHING, LENT(records), NONE, NONE, NONE, NONE, NONE, NONE, NONE, NONE).refusal == 0, "it passes");
 
     BlotheathText code = blotheath_instructions(LENT(file), LENT(records), 0);
     hold(code.refusal == 0 && code.place == 48 && code.length == 4, "the instructions are found");
@@ -235,13 +319,13 @@ int main(void) {
     BlotheathConstant number = blotheath_pool(LENT(constants), LENT(records), LENT(pool), 0, 1);
     hold(number.refusal == 0 && number.kind == 1 && number.integer == INT64_C(123456789012), "eight bytes, high byte first");
 
-    at = blotheath_follow(LENT(definition), DESKTOP, LENT(records), NONE, NONE, LENT(symbols), NONE, NONE, NONE, NONE, NONE,
+    at = blotheath_follow(LENT(definition), DESKTOP, EVERYTHING, LENT(records), NONE, NONE, LENT(symbols), NONE, NONE, NONE, NONE, NONE,
                           LENT(frames), LENT(enter));
     hold(at.refusal == 0 && at.frames == 2 && at.record == 1 && at.offset == 0, "the child of TDEF is entered");
     hold(frames[0] == 0 && frames[1] == 4, "the frame below stands behind TDEF");
     memcpy(missing, definition, sizeof missing);
     missing[CHILD] = 1;
-    hold(blotheath_examine(LENT(missing), DESKTOP, LENT(records), NONE, NONE, LENT(symbols), NONE, NONE, NONE, NONE, NONE).refusal == 17,
+    hold(blotheath_examine(LENT(missing), DESKTOP, EVERYTHING, LENT(records), NONE, NONE, LENT(symbols), NONE, NONE, NONE, NONE, NONE).refusal == 17,
          "a third operand that names no child");
 
     hold(examined_adding(0) == 0, "ADD touches the two registers that there are");
@@ -250,6 +334,8 @@ int main(void) {
     hold_prefixes();
     hold_parents();
     hold_allowances();
+    hold_lists();
+    hold_order_of_lists();
     hold(blotheath_fetch(NONE).refusal == 24, "an instruction of no bytes");
     hold(blotheath_fetch(file + code.place, code.length).a == 1, "an instruction");
     hold(blotheath_line_at(NONE, 0).found == 0, "a map without entries");

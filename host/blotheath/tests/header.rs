@@ -4,7 +4,7 @@ mod common;
 
 use blotheath::answer::NO_PARENT;
 use blotheath::tables::{RECORD_WORDS, ROW_WORDS, rows, usual};
-use blotheath::{Allowance, LOAD_STACK, Opcode, Refusal, STACK};
+use blotheath::{Allowance, LOAD_STACK, Opcode, Permitted, Refusal, STACK};
 use common::Folder;
 use std::fs;
 use std::path::{Path, PathBuf};
@@ -93,26 +93,49 @@ fn the_allowances_are_those_of_the_host() {
     }
 }
 
-/// The four calls that read a whole file take an allowance directly behind it, and no other call takes one.
-#[test]
-fn the_allowance_stands_behind_the_file() {
-    let header = header();
+/// The calls that the header declares, each with its parameters.
+fn calls(header: &str) -> Vec<(&str, String)> {
     let (_, declared) = header.split_once("extern \"C\"").unwrap();
-    let mut taking = Vec::new();
-    for call in declared.split("\nBlotheath").skip(1) {
+    let calls = declared.split("\nBlotheath").skip(1).map(|call| {
         let (_, call) = call.split_once(" blotheath_").unwrap();
         let (name, rest) = call.split_once('(').unwrap();
         let (parameters, _) = rest.split_once(");").unwrap();
         let words: Vec<&str> = parameters.split_whitespace().collect();
-        let start =
-            "const uint8_t *file, size_t file_len, uint32_t max_bytes, uint32_t max_records,";
-        if words.join(" ").starts_with(start) {
-            taking.push(name);
-        } else {
-            assert!(!parameters.contains("max_"), "{name}");
-        }
+        (name, words.join(" "))
+    });
+    calls.collect()
+}
+
+/// The calls whose parameters begin so; no other has one with this word in it.
+fn taking<'h>(header: &'h str, start: &str, word: &str) -> Vec<&'h str> {
+    let (taking, others): (Vec<_>, Vec<_>) = calls(header)
+        .into_iter()
+        .partition(|(_, parameters)| parameters.starts_with(start));
+    for (name, parameters) in others {
+        assert!(!parameters.contains(word), "{name}");
     }
-    assert_eq!(taking, ["load", "load_records", "examine", "follow"]);
+    taking.into_iter().map(|(name, _)| name).collect()
+}
+
+/// The four calls that read a whole file take an allowance directly behind it, the two that examine it permitted opcodes behind that, and no others.
+#[test]
+fn the_terms_stand_behind_the_file() {
+    let header = header();
+    let allowance =
+        "const uint8_t *file, size_t file_len, uint32_t max_bytes, uint32_t max_records,";
+    let all = ["load", "load_records", "examine", "follow"];
+    assert_eq!(taking(&header, allowance, "max_"), all);
+    let permitted = format!("{allowance} const uint8_t *permitted, size_t permitted_len,");
+    assert_eq!(taking(&header, &permitted, "permitted"), all[2..]);
+}
+
+#[test]
+fn the_opcodes_are_those_of_the_host() {
+    let number = Permitted::everything().as_bytes().len();
+    assert_eq!(number, Opcode::all().count());
+    let header = header();
+    assert!(header.contains(&format!("#define BLOTHEATH_OPCODES {number}\n")));
+    assert!(header.contains(&format!(" {number} opcodes (BLOTHEATH_OPCODES)")));
 }
 
 /// The header's table of registers has the opcodes that touch more than their operands name, each once.

@@ -239,6 +239,7 @@ fn page() -> (String, Vec<String>) {
     assert_eq!(ran.status, 0, "{ran:?}");
     assert!(ran.out.lines().all(|line| line.len() <= 106), "{}", ran.out);
     let (_, table) = ran.out.split_once("\n\n").unwrap();
+    let (table, _) = table.split_once("\n\n").unwrap();
     let mut lines = table.lines().map(str::to_owned);
     (lines.next().unwrap(), lines.collect())
 }

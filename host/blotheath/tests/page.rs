@@ -265,7 +265,7 @@ fn the_checklist_tells_how_far_examination_went() {
         rows.map(|row| row.split('<').next().unwrap().to_owned())
             .collect::<Vec<String>>()
     };
-    assert_eq!(states(&sample_bytes()), ["holds"; 7]);
+    assert_eq!(states(&sample_bytes()), ["holds"; 8]);
     let up_to = |last: u32| format!("holds in records 0 to {last}; not looked at further on");
     let steps =
         "holds in records 0 to 3, and in record 4 up to offset 30; not looked at further on";
@@ -274,6 +274,7 @@ fn the_checklist_tells_how_far_examination_went() {
         [
             "holds",
             "holds",
+            &up_to(4),
             &up_to(4),
             steps,
             "does not hold",
@@ -288,7 +289,7 @@ fn the_checklist_tells_how_far_examination_went() {
     ] {
         let unloaded = states(&bytes);
         assert_eq!(unloaded[0], "does not hold");
-        assert_eq!(unloaded[1..], ["not looked at"; 6]);
+        assert_eq!(unloaded[1..], ["not looked at"; 7]);
     }
 }
 

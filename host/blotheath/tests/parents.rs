@@ -7,7 +7,7 @@ use blotheath::tables::{RECORD_WORDS, RECORDS, rows, zeros};
 use blotheath::{Allowance, Tree, examine, ffi, load};
 use common::build::{self, BLOCK, STOP};
 use common::json::{Value, parse};
-use common::{Folder, Numbers, Ran, damaged, files, run, sample, sample_bytes};
+use common::{EVERYTHING, Folder, Numbers, Ran, damaged, files, run, sample, sample_bytes};
 use std::fs;
 
 /// The most children that a record states, and the most records of a file.
@@ -189,8 +189,9 @@ fn a_refused_load_leaves_zeros() {
     // Examination refuses what load loads.
     let file = tree(&[1, 0, 0], false);
     assert_eq!(ffi::load(&file, Allowance::DESKTOP, &mut words).refusal, 0);
+    let permitted = EVERYTHING.as_bytes();
     assert_eq!(
-        ffi::examine(&file, Allowance::DESKTOP, &mut words).refusal,
+        ffi::examine(&file, Allowance::DESKTOP, permitted, &mut words).refusal,
         15
     );
     assert!(words.iter().flatten().all(|word| *word == 0));

@@ -5,7 +5,8 @@ mod common;
 use blotheath::{Allowance, FILE_LIMIT, Refusal, load, load_within, locate_within};
 use common::json::{Value, parse};
 use common::{
-    Folder, Numbers, build, damaged, files, refused, run, run_with, sample_bytes, steers,
+    EVERYTHING, Folder, Numbers, build, damaged, files, refused, run, run_with, sample_bytes,
+    steers,
 };
 use std::collections::BTreeSet;
 use std::fs;
@@ -527,7 +528,7 @@ fn every_file_that_does_not_load_has_a_place() {
         };
         assert_eq!(model, Err(refusal.number()));
         found.insert(refusal);
-        let located = |refusal| locate_within(&file, allowance, None, refusal);
+        let located = |refusal| locate_within(&file, allowance, &EVERYTHING, None, refusal);
         let place = located(refusal);
         let place = place.unwrap_or_else(|| panic!("{refusal} has no place in {file:?}"));
         assert!(place.byte.unwrap() as usize <= file.len(), "{place:?}");

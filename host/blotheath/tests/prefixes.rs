@@ -101,7 +101,7 @@ fn json_has_the_prefix_beside_the_opcode() {
 fn the_page_sets_a_prefix_before_its_opcode() {
     let (_folder, path) = wide("prefixes-page");
     let page = run(&["report", &path]).out;
-    assert!(page.contains("it meets none of the refusals 15 to 20 and 25."));
+    assert!(page.contains("it meets none of the refusals 15 to 20, 25 and 32."));
     assert!(page.contains("<td class=\"number\">16, 25</td>"));
     for (prefix, name, operands) in [
         ("EXT1", "LOADNIL", "<span class=\"local\">pitch</span>"),

@@ -6,7 +6,7 @@ mod common;
 
 use blotheath::tables::{self, RECORD_LIMIT, Words};
 use blotheath::{Allowance, LOAD_STACK, STACK, ffi};
-use common::{build, run_in_stack};
+use common::{EVERYTHING, build, run_in_stack};
 use std::thread;
 
 /// Chains of 1,024 records: alone, with names, with lines, with both.
@@ -49,7 +49,8 @@ fn examinations_in_their_stack() {
     for file in chains() {
         let mut words = lent(&file);
         let answer = in_stack(STACK, || {
-            ffi::examine(&file, Allowance::DESKTOP, &mut words)
+            let permitted = EVERYTHING.as_bytes();
+            ffi::examine(&file, Allowance::DESKTOP, permitted, &mut words)
         });
         assert_eq!((answer.refusal, answer.rows[0]), (0, 1_024));
     }
@@ -63,7 +64,15 @@ fn runs_in_their_stack() {
         let mut words = lent(&file);
         let mut frames = vec![0; 2 * RECORD_LIMIT];
         let answer = in_stack(STACK, || {
-            ffi::follow(&file, Allowance::DESKTOP, &mut words, &mut frames, &choices)
+            let permitted = EVERYTHING.as_bytes();
+            ffi::follow(
+                &file,
+                Allowance::DESKTOP,
+                permitted,
+                &mut words,
+                &mut frames,
+                &choices,
+            )
         });
         assert_eq!((answer.refusal, answer.frames), (0, 1_024));
     }

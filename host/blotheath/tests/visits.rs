@@ -6,7 +6,7 @@ use blotheath::tables::{rows, usual, zeros};
 use blotheath::{Allowance, NameWalk, examine, ffi, load};
 use common::build::{self, STOP};
 use common::json::parse;
-use common::{Folder, Ran, files, run};
+use common::{EVERYTHING, Folder, Ran, files, run};
 use std::fs;
 use std::time::{Duration, Instant};
 
@@ -135,7 +135,8 @@ fn a_refused_load_has_no_visits() {
     // Examination refuses what load loads.
     let file = tree(&[1]);
     assert_eq!(ffi::load(&file, Allowance::DESKTOP, &mut words).visits, 2);
-    let examined = ffi::examine(&file, Allowance::DESKTOP, &mut words);
+    let permitted = EVERYTHING.as_bytes();
+    let examined = ffi::examine(&file, Allowance::DESKTOP, permitted, &mut words);
     assert_eq!((examined.refusal, examined.visits), (15, 0));
 }
 

@@ -400,7 +400,7 @@ mod tests {
     use crate::allowance::{self, Met, read_all};
     use crate::generate::Generator;
     use crate::rng::Rng;
-    use model::{FILE_LIMIT, RECORD_LIMIT};
+    use model::{EVERYTHING, FILE_LIMIT, RECORD_LIMIT};
 
     /// A load: its file, allowance and tables.
     struct Load {
@@ -483,9 +483,10 @@ mod tests {
                 let (file, sizes) = (&allowed.file, call.sizes());
                 let loaded = match &call.asked {
                     Asked::Load => model::load(file, call.allowance, &sizes),
-                    Asked::Examination => model::examine(file, call.allowance, &sizes),
+                    Asked::Examination => model::examine(file, call.allowance, &EVERYTHING, &sizes),
                     Asked::Run(words, choices, _) => {
-                        model::follow(file, call.allowance, &sizes, *words, choices).loaded
+                        let allowance = call.allowance;
+                        model::follow(file, allowance, &EVERYTHING, &sizes, *words, choices).loaded
                     }
                 };
                 assert_eq!(loaded.refusal, call.refusal, "{number} {at}");

@@ -33,7 +33,7 @@ pub fn groups() -> Vec<Group> {
 mod tests {
     use super::*;
     use crate::allowance::read_all;
-    use model::{Allowance, Refusal, Sizes};
+    use model::{Allowance, EVERYTHING, Refusal, Sizes};
 
     /// The answer of a file's examination over tables that fit.
     fn answer(file: &[u8]) -> Refusal {
@@ -42,6 +42,7 @@ mod tests {
         model::examine(
             file,
             Allowance::DESKTOP,
+            &EVERYTHING,
             &Sizes::of_rows(reading.rows.used()),
         )
         .refusal

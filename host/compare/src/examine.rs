@@ -4,6 +4,7 @@ use crate::Stop;
 use crate::allowance::{self, Met, read_all};
 use crate::args::Args;
 use crate::chosen;
+use crate::for_lists;
 use crate::generate::{Generator, all_steps, needed_by_step};
 use crate::load::{ANSWERS, at_work, corpus, difference, garbage, other_sizes, watch};
 use crate::newer::NEWER;
@@ -12,11 +13,14 @@ use crate::prefixes::PREFIXES;
 use crate::registers;
 use crate::rng::Rng;
 use crate::subject::{Subject, answers_as, subjects};
-use model::{Allowance, OPCODES, Record, Refusal, Sizes, Step};
+use model::{Allowance, EVERYTHING, OPCODES, Record, Refusal, Sizes, Step};
 use std::collections::{BTreeMap, BTreeSet};
 
-/// The refusals of a file that loads: "none of 15 to 20 and 25".
+/// The refusals of a file that loads, with everything permitted: "none of 15 to 20, 25 and 32".
 pub const NOT_PASSING: [Refusal; 7] = [15, 16, 17, 18, 19, 20, 25];
+
+/// For how many lists of permitted opcodes each real file is examined.
+const REAL_LISTS: usize = 20;
 
 /// `compare examine`
 pub fn compare(args: &Args) -> Result<(), Stop> {
@@ -30,18 +34,25 @@ pub fn compare(args: &Args) -> Result<(), Stop> {
     let corpus = corpus();
     let mut by_number = BTreeMap::<Refusal, [u64; 3]>::new();
     let mut with = With::default();
+    let mut listed = for_lists::Counts::default();
     for (i, (name, file)) in corpus.iter().enumerate() {
         let mut rng = Rng::new(seed, u64::MAX - i as u64);
-        let [fitting, ..] =
-            one(&subjects, file, &mut rng).map_err(|why| difference(name, file, &why))?;
+        let mut beside = rng.beside();
+        let wrong = |why: String| difference(name, file, &why);
+        let [fitting, ..] = one(&subjects, file, &mut rng).map_err(wrong)?;
+        for _ in 0..REAL_LISTS {
+            let counts = &mut for_lists::Counts::default();
+            for_lists::one(&subjects, file, &mut beside, counts).map_err(wrong)?;
+        }
         if fitting != 0 {
             let why = format!("the answer is {fitting}, the corpus says that it passes");
-            return Err(difference(name, file, &why));
+            return Err(wrong(why));
         }
     }
     let chosen = chosen_files(&subjects, seed)?;
+    let chosen_lists = for_lists::chosen(&subjects, seed)?;
     println!(
-        "seed {seed}, {} corpus files as described, {chosen} chosen ones with their answers, {files} generated",
+        "seed {seed}, {} corpus files as described, {chosen} chosen ones and {chosen_lists} for lists with their answers, {files} generated",
         corpus.len()
     );
     let generator = Generator {
@@ -50,8 +61,10 @@ pub fn compare(args: &Args) -> Result<(), Stop> {
     for index in first..first + files {
         let file = generator.examinable(seed, index);
         let mut rng = Rng::new(!seed, index);
-        let answers = one(&subjects, &file, &mut rng)
-            .map_err(|why| difference(&format!("seed {seed} index {index}"), &file, &why))?;
+        let mut beside = rng.beside();
+        let wrong = |why: String| difference(&format!("seed {seed} index {index}"), &file, &why);
+        let answers = one(&subjects, &file, &mut rng).map_err(wrong)?;
+        for_lists::one(&subjects, &file, &mut beside, &mut listed).map_err(wrong)?;
         with.count(&file, answers[0]);
         for (side, answer) in answers.into_iter().enumerate() {
             by_number.entry(answer).or_default()[side] += 1;
@@ -69,6 +82,7 @@ pub fn compare(args: &Args) -> Result<(), Stop> {
         println!("  {name:<11}{fitting:>9}{other:>9}{allowed:>9}");
     }
     with.print();
+    listed.print();
     println!("no difference");
     Ok(())
 }
@@ -161,8 +175,8 @@ fn is_at_border(record: &Record, step: &Step, more: u32) -> bool {
     needed > 0 && needed == record.nregs + more
 }
 
-/// Holds every subject against the model on one file; answers the numbers over tables that fit, over other sizes, and under another allowance than the
-/// desktop's.
+/// Holds every subject against the model on one file with everything permitted; answers the numbers over tables that fit, over other sizes, and under
+/// another allowance than the desktop's.
 fn one(subjects: &[Box<dyn Subject>], file: &[u8], rng: &mut Rng) -> Result<[Refusal; 3], String> {
     at_work(file);
     let reading = read_all(file);
@@ -181,7 +195,7 @@ fn one(subjects: &[Box<dyn Subject>], file: &[u8], rng: &mut Rng) -> Result<[Ref
     let lent = [(desktop, fitting), (desktop, other), (allowance, allowed)];
     let mut numbers = [0; 3];
     for (number, (allowance, sizes)) in numbers.iter_mut().zip(lent) {
-        let right = model::examine(file, allowance, &sizes);
+        let right = model::examine(file, allowance, &EVERYTHING, &sizes);
         let loaded = model::load(file, allowance, &sizes);
         *number = right.refusal;
         // What a load refuses is refused alike; a file that passes answers what its load answers.
@@ -195,14 +209,14 @@ fn one(subjects: &[Box<dyn Subject>], file: &[u8], rng: &mut Rng) -> Result<[Ref
         }
         for subject in subjects {
             let mut tables = garbage(&sizes, rng);
-            let answer = subject.examine(file, allowance, &mut tables);
+            let answer = subject.examine(file, allowance, &EVERYTHING, &mut tables);
             answers_as(subject.name(), answer, &tables, &right)
                 .map_err(|why| format!("under {allowance:?} over {:?} words {why}", sizes.0))?;
         }
     }
-    let examined = model::examine(file, allowance, &allowed);
+    let examined = model::examine(file, allowance, &EVERYTHING, &allowed);
     let is_right = match met.over(&allowed) {
-        0 => examined == model::examine(file, desktop, &allowed),
+        0 => examined == model::examine(file, desktop, &EVERYTHING, &allowed),
         refusal => examined.refusal == refusal,
     };
     if !is_right {

@@ -2,16 +2,19 @@
 
 use crate::Stop;
 use crate::allowance::{self, Met, read_all};
+use crate::allowed::Asked;
 use crate::args::Args;
 use crate::chosen;
 use crate::examine::NOT_PASSING;
 use crate::generate::{Generator, steps};
+use crate::listed;
 use crate::load::{ANSWERS, at_work, corpus, difference, garbage, hex, other_sizes, watch};
 use crate::oracle::BEYOND;
+use crate::permitted::{self, FORBIDDEN, says_yes};
 use crate::prefixes::PREFIXES;
 use crate::rng::Rng;
 use crate::subject::{Follow, Model, Subject, first_difference, subjects};
-use model::{Allowance, OPCODES, Reading, Refusal, Rows, Sizes, Step, Tables};
+use model::{Allowance, EVERYTHING, OPCODES, Reading, Refusal, Rows, Sizes, Step, Tables};
 use std::collections::BTreeMap;
 
 #[derive(Default)]
@@ -31,6 +34,9 @@ struct Counts {
     at_prefix: [u64; PREFIXES.len()],
     /// Runs under other allowances than the desktop's.
     allowed: BTreeMap<Refusal, u64>,
+    /// Runs for lists of permitted opcodes, and those of them that are refused by 32 and would else be by 21.
+    listed: BTreeMap<Refusal, u64>,
+    before_21: u64,
 }
 
 impl Counts {
@@ -72,7 +78,9 @@ pub fn compare(args: &Args) -> Result<(), Stop> {
         for subject in &subjects {
             let mut frames = vec![1; 2 * records];
             let mut tables = garbage(&sizes, &mut Rng::new(seed, 0));
-            let answer = subject.follow(file, Allowance::DESKTOP, &mut tables, &mut frames, &[]);
+            let allowance = Allowance::DESKTOP;
+            let answer =
+                subject.follow(file, allowance, &EVERYTHING, &mut tables, &mut frames, &[]);
             if answer.refusal != 0 {
                 let why = format!("{} answers {answer:?}", subject.name());
                 return Err(difference(name, file, &why));
@@ -83,7 +91,7 @@ pub fn compare(args: &Args) -> Result<(), Stop> {
                 .map_err(|why| difference(name, file, &why))?;
         }
     }
-    let chosen = chosen_runs(&subjects, seed)?;
+    let chosen = chosen_runs(&subjects, seed)? + chosen_runs_for_lists(&subjects, seed)?;
     println!(
         "seed {seed}, {} corpus files, {chosen} chosen runs with their answers, {files} files generated",
         corpus.len()
@@ -123,10 +131,18 @@ pub fn compare(args: &Args) -> Result<(), Stop> {
     println!("  top frames at each prefix: {:?}", counts.at_prefix);
     let allowed = |number| counts.allowed.get(&number).copied().unwrap_or(0);
     println!(
-        "runs under other allowances: {}, of which {} ran and {} are refused 29\nno difference",
+        "runs under other allowances: {}, of which {} ran and {} are refused 29",
         counts.allowed.values().sum::<u64>(),
         allowed(0),
         allowed(BEYOND)
+    );
+    let listed = |number| counts.listed.get(&number).copied().unwrap_or(0);
+    println!(
+        "runs for lists of permitted opcodes: {}, of which {} ran and {} are refused 32, {} of these before 21\nno difference",
+        counts.listed.values().sum::<u64>(),
+        listed(0),
+        listed(FORBIDDEN),
+        counts.before_21
     );
     Ok(())
 }
@@ -144,6 +160,7 @@ fn chosen_runs(subjects: &[Box<dyn Subject>], seed: u64) -> Result<usize, Stop> 
                 let call = Call {
                     file,
                     allowance: Allowance::DESKTOP,
+                    permitted: &EVERYTHING,
                     sizes: &sizes,
                     words: 2 * used[0],
                     choices,
@@ -156,6 +173,41 @@ fn chosen_runs(subjects: &[Box<dyn Subject>], seed: u64) -> Result<usize, Stop> 
                 }
                 number += 1;
             }
+        }
+    }
+    Ok(number)
+}
+
+/// The same for lists of permitted opcodes, with runs that are refused.
+fn chosen_runs_for_lists(subjects: &[Box<dyn Subject>], seed: u64) -> Result<usize, Stop> {
+    let mut number = 0;
+    for listed in listed::groups().iter().flat_map(|group| &group.files) {
+        let file = &listed.file;
+        at_work(file);
+        let sizes = Sizes::of_rows(read_all(file).rows.used());
+        for asked in &listed.calls {
+            let Asked::Run(words, choices, right) = &asked.asked else {
+                continue;
+            };
+            let call = Call {
+                file,
+                allowance: asked.allowance,
+                permitted: &asked.list,
+                sizes: &sizes,
+                words: *words,
+                choices,
+            };
+            let mut rng = Rng::new(seed, u64::MAX / 2 + number as u64);
+            let wrong = |why: String| difference("a chosen run", file, &why);
+            let (answer, _) = call.as_model(subjects, &mut rng).map_err(wrong)?;
+            let right = Follow {
+                refusal: asked.refusal,
+                numbers: if asked.refusal == 0 { *right } else { [0; 6] },
+            };
+            if answer != right {
+                return Err(wrong(format!("the answer is {answer:?}, not {right:?}")));
+            }
+            number += 1;
         }
     }
     Ok(number)
@@ -222,8 +274,9 @@ fn unfinished(bytes: &[u8], finishes: impl Fn(&[u8]) -> bool) -> usize {
 pub fn choices_of(file: &[u8], sizes: &Sizes, frame_words: usize, rng: &mut Rng) -> Vec<u8> {
     let mut choices = choices(rng);
     if !rng.one_in(3) {
+        let allowance = Allowance::DESKTOP;
         let finishes = |bytes: &[u8]| {
-            model::follow(file, Allowance::DESKTOP, sizes, frame_words, bytes).finished
+            model::follow(file, allowance, &EVERYTHING, sizes, frame_words, bytes).finished
         };
         choices.truncate(unfinished(&choices, finishes));
     }
@@ -261,10 +314,12 @@ fn step_of(file: &[u8], rows: &Rows, record: u32, is_such: impl Fn(&Step) -> boo
     found.expect("a frame stands at an instruction, and behind one if it was entered from")
 }
 
-/// A run of a file: under which allowance, over which tables and how many words of frames, along which choices.
+/// A run of a file: under which allowance and for which list, over which tables and how many words of frames, along which choices.
+#[derive(Clone, Copy)]
 struct Call<'a> {
     file: &'a [u8],
     allowance: Allowance,
+    permitted: &'a [u8],
     sizes: &'a Sizes,
     words: usize,
     choices: &'a [u8],
@@ -278,6 +333,7 @@ impl Call<'_> {
         let answer = subject.follow(
             self.file,
             self.allowance,
+            self.permitted,
             &mut tables,
             &mut frames,
             self.choices,
@@ -315,8 +371,9 @@ impl Call<'_> {
     /// The call in words.
     fn words(&self) -> String {
         format!(
-            "under {:?} over {:?} and {} words along {}",
+            "under {:?} for {} over {:?} and {} words along {}",
             self.allowance,
+            hex(self.permitted),
             self.sizes.0,
             self.words,
             hex(self.choices)
@@ -340,6 +397,7 @@ fn under_allowance(
     let call = Call {
         file,
         allowance,
+        permitted: &EVERYTHING,
         sizes: &sizes,
         words: frame_words(records, rng),
         choices,
@@ -380,6 +438,7 @@ fn one(
     let call = Call {
         file,
         allowance: Allowance::DESKTOP,
+        permitted: &EVERYTHING,
         sizes: &sizes,
         words,
         choices: &choices,
@@ -399,9 +458,67 @@ fn one(
             counts.count_top(&step_of(file, rows, record, is_top));
         }
     }
-    let refusal = under_allowance(subjects, file, &reading, &choices, &mut rng.beside())?;
+    let beside = &mut rng.beside();
+    let refusal = under_allowance(subjects, file, &reading, &choices, beside)?;
     *counts.allowed.entry(refusal).or_default() += 1;
+    if beside.one_in(2) {
+        let refusal = for_list(subjects, &call, &reading, right, beside)?;
+        *counts.listed.entry(refusal).or_default() += 1;
+        counts.before_21 += u64::from(refusal == FORBIDDEN && right.refusal == 21);
+    }
     Ok(())
+}
+
+/// Whether a number comes before examination in a run: the load's, and 14 for the frame table.
+fn is_before_examination(number: Refusal) -> bool {
+    ANSWERS[1..].contains(&number) || number == BEYOND
+}
+
+/// Holds every subject against the model on a run for a list of permitted opcodes, and the model against the rule for 32 and against its answer with
+/// everything permitted.
+fn for_list(
+    subjects: &[Box<dyn Subject>],
+    call: &Call,
+    reading: &Reading,
+    everything: Follow,
+    rng: &mut Rng,
+) -> Result<Refusal, String> {
+    let rows = &reading.rows;
+    let needed = permitted::needed(call.file, reading);
+    let (_, list) = permitted::any(&needed, rng);
+    let call = Call {
+        permitted: &list,
+        ..*call
+    };
+    let (answer, frames) = call.as_model(subjects, rng)?;
+    let wrong = |why: &str| {
+        Err(format!(
+            "{} the model answers {answer:?}{why}",
+            call.words()
+        ))
+    };
+    let examined = match is_before_examination(everything.refusal) {
+        true => 0,
+        false => permitted::Met::of(call.file, rows, &list).number,
+    };
+    let is_right = match examined {
+        0 => answer == everything,
+        refusal => answer.refusal == refusal,
+    };
+    if !is_right {
+        return wrong("");
+    }
+    // "Runs of a passing file meet permitted opcodes only."
+    let left = frames.chunks_exact(2).take(answer.numbers[5] as usize);
+    for frame in left {
+        let is_there = |step: &Step| step.offset == frame[1] as usize;
+        let step = step_of(call.file, rows, frame[0], is_there);
+        let mut bytes = step.prefix.into_iter().chain([step.opcode as u8]);
+        if !bytes.all(|byte| says_yes(&list, byte)) {
+            return wrong(", where a frame stands at an opcode that is not permitted");
+        }
+    }
+    Ok(answer.refusal)
 }
 
 #[cfg(test)]
@@ -418,7 +535,8 @@ mod tests {
             let sizes = Sizes::of_rows(rows.used());
             let words = 2 * rows.used()[0];
             let choices = choices_of(&file, &sizes, words, &mut Rng::new(!1, index));
-            let right = model::follow(&file, Allowance::DESKTOP, &sizes, words, &choices);
+            let allowance = Allowance::DESKTOP;
+            let right = model::follow(&file, allowance, &EVERYTHING, &sizes, words, &choices);
             all.extend(entries(&file, &rows, &right.frame_table, right.frames));
         }
         all
@@ -452,7 +570,9 @@ mod tests {
         let mut kinds = Vec::new();
         let mut at = 0;
         while at < choices.len() {
-            let followed = model::follow(file, Allowance::DESKTOP, &sizes, words, &choices[..at]);
+            let allowance = Allowance::DESKTOP;
+            let taken = &choices[..at];
+            let followed = model::follow(file, allowance, &EVERYTHING, &sizes, words, taken);
             let Some((record, offset)) = followed.top else {
                 break;
             };

@@ -257,6 +257,12 @@ pub fn needed_by_step(step: &Step) -> u32 {
     needed(step.opcode as u8, &step.operands)
 }
 
+/// Whether an operand of an instruction is not below its count by these roles.
+pub fn past_counts(record: &Record, step: &Step, roles: [Role; 3]) -> bool {
+    let mut held = step.operands.into_iter().zip(roles);
+    held.any(|(operand, role)| bound(role, record).is_some_and(|bound| operand >= bound))
+}
+
 /// Writes a number for an operand of an instruction, its low byte where it has one byte.
 fn write_operand(file: &mut [u8], record: &Record, step: &Step, operand: usize, number: u16) {
     let widths = widths(step.prefix, OPCODES[step.opcode].kind);
@@ -1781,6 +1787,7 @@ impl Maker {
 pub mod tests {
     use super::*;
     use crate::held::is_string;
+    use model::EVERYTHING;
     use std::collections::BTreeSet;
 
     /// A generator with the corpus, where it is there.
@@ -1846,7 +1853,7 @@ pub mod tests {
         let answered = files.filter_map(|file| {
             let reading = read_all(&file);
             reading.end.ok()?;
-            let answer = model::passes(&file, &reading.rows);
+            let answer = model::passes(&file, &EVERYTHING, &reading.rows);
             matches!(answer, Ok(()) | Err(17)).then_some((file, reading.rows, answer.is_err()))
         });
         answered.collect()
@@ -1861,12 +1868,6 @@ pub mod tests {
             let roles = roles(&OPCODES[step.opcode]);
             past_counts(record, &step, roles) || needed_by_step(&step) > record.nregs
         })
-    }
-
-    /// Whether an operand of an instruction is not below its count by these roles.
-    pub fn past_counts(record: &Record, step: &Step, roles: [Role; 3]) -> bool {
-        let mut held = step.operands.into_iter().zip(roles);
-        held.any(|(operand, role)| bound(role, record).is_some_and(|bound| operand >= bound))
     }
 
     /// The roles of an opcode with another one for one operand behind the first.
@@ -1965,7 +1966,7 @@ pub mod tests {
         for index in 0..6_000 {
             let file = generator.examinable(1, index);
             let reading = read_all(&file);
-            if reading.end.is_ok() && model::passes(&file, &reading.rows) == Err(25) {
+            if reading.end.is_ok() && model::passes(&file, &EVERYTHING, &reading.rows) == Err(25) {
                 let stray = stray_prefixes(&file, &reading.rows);
                 assert_ne!(stray, [false; 2]);
                 met = [met[0] + u32::from(stray[0]), met[1] + u32::from(stray[1])];

@@ -12,8 +12,8 @@ use crate::rng::Rng;
 use crate::subject::{Subject, answers_as, subjects};
 use crate::visits;
 use model::{
-    Allowance, Entry, HEADER, Loaded, NAMES, NO_PARENT, RECORD_WORDS, ROW_WORDS, Reading, Record,
-    Refusal, Rows, Sizes, TREE_WORDS, Tables,
+    Allowance, EVERYTHING, Entry, HEADER, Loaded, NAMES, NO_PARENT, RECORD_WORDS, ROW_WORDS,
+    Reading, Record, Refusal, Rows, Sizes, TREE_WORDS, Tables,
 };
 use original::Error;
 use std::collections::{BTreeMap, BTreeSet};
@@ -154,7 +154,7 @@ impl Counts {
             unreached().next().is_none() && children >= number,
         );
         has("depth above 2", records.iter().any(|r| r.depth > 2));
-        has("passing", model::passes(file, rows).is_ok());
+        has("passing", model::passes(file, &EVERYTHING, rows).is_ok());
     }
 
     /// Counts a file of this number by what it meets under other allowances.

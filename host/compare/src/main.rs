@@ -10,14 +10,19 @@ mod examine;
 mod expected;
 mod fetch;
 mod follow;
+mod for_lists;
 mod generate;
 mod held;
 mod lines;
+mod listed;
 mod load;
 mod lookups;
+#[cfg(test)]
+mod mistaken_lists;
 mod newer;
 mod oracle;
 mod parents;
+mod permitted;
 #[cfg(feature = "port")]
 mod port;
 mod prefixes;

@@ -17,19 +17,26 @@ impl Subject for Port {
         answer(ffi::load(file, of(allowance), tables))
     }
 
-    fn examine(&self, file: &[u8], allowance: Allowance, tables: &mut Tables) -> Answer {
-        answer(ffi::examine(file, of(allowance), tables))
+    fn examine(
+        &self,
+        file: &[u8],
+        allowance: Allowance,
+        permitted: &[u8],
+        tables: &mut Tables,
+    ) -> Answer {
+        answer(ffi::examine(file, of(allowance), permitted, tables))
     }
 
     fn follow(
         &self,
         file: &[u8],
         allowance: Allowance,
+        permitted: &[u8],
         tables: &mut Tables,
         frames: &mut Vec<u32>,
         choices: &[u8],
     ) -> Follow {
-        let r = ffi::follow(file, of(allowance), tables, frames, choices);
+        let r = ffi::follow(file, of(allowance), permitted, tables, frames, choices);
         Follow {
             refusal: r.refusal,
             numbers: [r.finished, r.record, r.offset, r.found, r.line, r.frames],

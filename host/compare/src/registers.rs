@@ -457,7 +457,8 @@ fn order() -> Vec<Examined> {
 mod tests {
     use super::*;
     use crate::allowance::read_all;
-    use crate::generate::tests::{passing_or_17, past_counts};
+    use crate::generate::past_counts;
+    use crate::generate::tests::passing_or_17;
     use crate::generate::{all_steps, needed_by_step};
     use crate::prefixes::named;
     use model::{Record, Rows, Step};

@@ -3,6 +3,16 @@
 use crate::generate::{be2, be4, exact, overwrite, state_size};
 use model::{Refusal, Role};
 
+/// Paper 01's File A: 64 bytes.
+pub fn file_a() -> Vec<u8> {
+    let mut file = b"RITE0400\0\0\0\x40\0\0\0\0\0\0\0\0".to_vec();
+    file.extend(b"IREP\0\0\0\x24\0\0\0\0");
+    file.extend([0, 0, 0, 24, 0, 1, 0, 2, 0, 0, 0, 0, 0, 0, 0, 4]);
+    file.extend([17, 1, 61, 1, 0, 0, 0, 0]);
+    file.extend(b"END\0\0\0\0\x08");
+    file
+}
+
 /// The opcode of the code that a record has where it does not matter.
 pub const STOP: u8 = 118;
 

@@ -12,8 +12,12 @@
 //!                           refusal's number or 0, rows used, visits of the LVAR walk, the sum of all lent words afterwards
 //! 3 N KIND A B C            a fetch from these bytes: refusal's number or 0, operand kind, operands
 //! 4 WORDS P0 L0 P1 L1 ..    words: how many, then a map's positions and lines, or the lengths of nine tables and their words
-//! 4 2 BYTES RECORDS         words before loads, examinations and follows: the allowance of those behind them
-//! 4 0                       no words: the allowance is the desktop's, as at the start
+//! 4 0                       no words: loads, examinations and follows behind them are under the desktop's allowance, with everything permitted, as at
+//!                           the start
+//! 4 2 BYTES RECORDS         words before these calls: their allowance, and everything is permitted
+//! 4 WORDS BYTES RECORDS LENGTH LIST
+//!                           the same with the list of permitted opcodes: how many bytes it has, then its bytes, zeros behind them up to a whole word;
+//!                           a load takes no list
 //! 5 POS FOUND LINE          a line lookup in this map: position, 1 or 0 for none, line or 0
 //! 6 LENGTH NAME             the end of a group of answers, and its name
 //! 7 W0 .. W8 N R0 .. R8 V S an examination of these bytes, as a load
@@ -28,8 +32,8 @@
 //!
 //! The nine tables are those of `model::NAMES`, always in this order, with rows of `model::ROW_WORDS` words. The first has at most three rows more
 //! than 1,024, the others 8,192 words.
-//! A frame table has at most 2,048 words. There are at most 512 words of kind 4. A load, an examination or a follow is under the allowance of the words
-//! that stand last if they are two, else under the desktop's. The kinds 0 to 7 are Z, B, BB, S, BBB, BS, W, BSS.
+//! A frame table has at most 2,048 words. There are at most 512 words of kind 4. A load, an examination or a follow is under the allowance and for the
+//! list of the words that stand last, if they are two or more. The kinds 0 to 7 are Z, B, BB, S, BBB, BS, W, BSS.
 //! Lookups are numbered from 0: instructions, handler, pool, symbol, name, debug file, line.
 //! The sum begins with 0; for each word w, table by table, it becomes (sum * 65599 + w + 1) modulo 4294967291.
 //! A replay fills the lent words with anything but the answer before each call, so that the sum shows every word written.
@@ -51,17 +55,18 @@ use crate::follow;
 use crate::generate::{Generator, overwrite, state_size};
 use crate::held::Held;
 use crate::lines;
+use crate::listed::{self, Listed};
 use crate::load::{ANSWERS, Counts, corpus, garbage, one, other_sizes};
 use crate::lookups;
 use crate::oracle::{self, NO_ROW, Outcome, TOO_LONG};
 use crate::parents;
 use crate::rng::Rng;
-use crate::sample::{Examined, FINISHED, Run, stands_at};
+use crate::sample::{Examined, FINISHED, Run, file_a, stands_at};
 use crate::subject::{Answer, Fetch, Follow, Found, LOOKUPS, Lookup, Model, Subject, subjects};
 use crate::visits;
 use model::{
-    Allowance, FILE_LIMIT, HEADER, OPCODES, RECORD_LIMIT, RECORD_WORDS, ROW_WORDS, Refusal, Sizes,
-    Tables,
+    Allowance, EVERYTHING, FILE_LIMIT, HEADER, OPCODES, RECORD_LIMIT, RECORD_WORDS, ROW_WORDS,
+    Refusal, Sizes, Tables,
 };
 use original::rite::rite::line_at;
 use std::collections::BTreeMap;
@@ -103,6 +108,7 @@ pub fn write(args: &Args) -> Result<(), Stop> {
     visited_samples(&mut calls).map_err(Stop::Difference)?;
     nested_samples(&mut calls).map_err(Stop::Difference)?;
     allowed_samples(&mut calls).map_err(Stop::Difference)?;
+    listed_samples(&mut calls).map_err(Stop::Difference)?;
     loads(&mut calls, seed, count as usize, &mut counts).map_err(Stop::Difference)?;
     examinable_files(&mut calls, seed)?;
     let mut lookups = Store::default();
@@ -115,34 +121,82 @@ pub fn write(args: &Args) -> Result<(), Stop> {
     lookups.end(args, "--lookups")
 }
 
-struct Store {
-    bytes: Vec<u8>,
-    /// The allowance of the calls that come next.
+/// What calls state beside the file: the allowance and the permitted opcodes.
+#[derive(Debug, Clone, PartialEq, Eq)]
+struct Terms {
     allowance: Allowance,
+    permitted: Vec<u8>,
 }
 
-impl Default for Store {
-    fn default() -> Store {
-        Store {
-            bytes: Vec::new(),
-            allowance: Allowance::DESKTOP,
-        }
+impl Default for Terms {
+    fn default() -> Terms {
+        Terms::with_everything(Allowance::DESKTOP)
     }
 }
 
+impl Terms {
+    /// An allowance, with everything permitted.
+    fn with_everything(allowance: Allowance) -> Terms {
+        Terms {
+            allowance,
+            permitted: EVERYTHING.to_vec(),
+        }
+    }
+
+    /// The words that state these terms.
+    fn words(&self) -> Vec<u32> {
+        if *self == Terms::default() {
+            return Vec::new();
+        }
+        let Allowance { bytes, records } = self.allowance;
+        if self.permitted == EVERYTHING {
+            return vec![bytes, records];
+        }
+        let mut words = vec![bytes, records, self.permitted.len() as u32];
+        for part in self.permitted.chunks(4) {
+            let mut word = [0; 4];
+            word[..part.len()].copy_from_slice(part);
+            words.push(u32::from_be_bytes(word));
+        }
+        words
+    }
+
+    /// The terms that words state.
+    fn of(words: &[u32]) -> Result<Terms, String> {
+        let [bytes, records, ref list @ ..] = *words else {
+            return Ok(Terms::default());
+        };
+        let mut terms = Terms::with_everything(Allowance { bytes, records });
+        if let [length, list @ ..] = list {
+            let bytes: Vec<u8> = list.iter().flat_map(|word| word.to_be_bytes()).collect();
+            let permitted = bytes.get(..*length as usize);
+            terms.permitted = permitted.ok_or("a list's bytes are missing")?.to_vec();
+        }
+        Ok(terms)
+    }
+}
+
+#[derive(Default)]
+struct Store {
+    bytes: Vec<u8>,
+    /// The terms of the calls that come next.
+    terms: Terms,
+}
+
 impl Store {
-    /// Puts the calls that come next under an allowance.
-    fn allow(&mut self, allowance: Allowance) {
-        if allowance == self.allowance {
+    /// States the terms of the calls that come next.
+    fn state(&mut self, terms: Terms) {
+        if terms == self.terms {
             return;
         }
-        self.allowance = allowance;
-        let Allowance { bytes, records } = allowance;
-        if allowance == Allowance::DESKTOP {
-            self.item(4, [0]);
-        } else {
-            self.item(4, [2, bytes, records]);
-        }
+        self.words(&terms.words());
+        self.terms = terms;
+    }
+
+    /// An item of words.
+    fn words(&mut self, words: &[u32]) {
+        assert!(words.len() <= MOST_WORDS, "more words than a replay has");
+        self.item(4, [&[words.len() as u32], words].concat());
     }
 
     fn item(&mut self, kind: u32, numbers: impl IntoIterator<Item = u32>) {
@@ -168,7 +222,6 @@ impl Store {
         Ok(())
     }
 
-    /// A load, an examination or the head of a follow.
     /// A load, an examination or the first numbers of a follow; an answer has eleven.
     fn call(&mut self, kind: u32, sizes: &Sizes, answer: [u32; 11], sum: u32) {
         let words = sizes.0.map(|words| words as u32);
@@ -217,16 +270,6 @@ fn of_follow(followed: &Follow) -> [u32; 11] {
 /// Where the pool and the symbols of File A's record begin, and where its END does.
 const A_LISTS: usize = 52;
 const A_END: usize = 56;
-
-/// Paper 01's File A: 64 bytes.
-fn file_a() -> Vec<u8> {
-    let mut file = b"RITE0400\0\0\0\x40\0\0\0\0\0\0\0\0".to_vec();
-    file.extend(b"IREP\0\0\0\x24\0\0\0\0");
-    file.extend([0, 0, 0, 24, 0, 1, 0, 2, 0, 0, 0, 0, 0, 0, 0, 4]);
-    file.extend([17, 1, 61, 1, 0, 0, 0, 0]);
-    file.extend(b"END\0\0\0\0\x08");
-    file
-}
 
 /// The papers' samples of loading, examination and runs that are run by a program, with the papers' own answers.
 fn samples(store: &mut Store) -> Result<(), String> {
@@ -452,30 +495,68 @@ fn allowed_samples(store: &mut Store) -> Result<(), String> {
 /// Calls under allowances on the file that stands last.
 fn calls_under_allowances(store: &mut Store, allowed: &Allowed) -> Result<(), String> {
     for call in &allowed.calls {
-        store.allow(call.allowance);
-        let sizes = call.sizes();
-        let kind = match &call.asked {
-            Asked::Load => 2,
-            Asked::Examination => 7,
-            Asked::Run(words, choices, right) => {
-                let right = Follow {
-                    refusal: call.refusal,
-                    numbers: if call.refusal == 0 { *right } else { [0; 6] },
-                };
-                sample_run(store, &sizes, *words, &allowed.file, choices, right)?;
-                continue;
-            }
-        };
-        let loads = u32::from(call.refusal == 0);
-        let right = Answer {
-            refusal: call.refusal,
-            rows: of_records(loads * allowed.records),
-            visits: 0,
-        };
-        sample_again(store, kind, &sizes, &allowed.file, right)?;
+        store.state(Terms::with_everything(call.allowance));
+        let right = (call.refusal, of_records(allowed.records));
+        sample_call(store, &call.asked, &call.sizes(), &allowed.file, right)?;
     }
-    store.allow(Allowance::DESKTOP);
+    store.state(Terms::default());
     Ok(())
+}
+
+/// Calls on files for lists of permitted opcodes, with the answers of request n).
+fn listed_samples(store: &mut Store) -> Result<(), String> {
+    for group in listed::groups() {
+        for listed in &group.files {
+            let wrong = |why: String| format!("{}: {why}", group.name);
+            calls_for_lists(store, listed).map_err(wrong)?;
+        }
+        store.state(Terms::default());
+        store.bytes(6, group.name.as_bytes());
+    }
+    Ok(())
+}
+
+/// A file, and calls on it for lists over tables that fit.
+fn calls_for_lists(store: &mut Store, listed: &Listed) -> Result<(), String> {
+    let used = read_all(&listed.file).rows.used();
+    store.bytes(1, &listed.file);
+    for call in &listed.calls {
+        store.state(Terms {
+            allowance: call.allowance,
+            permitted: call.list.clone(),
+        });
+        let right = (call.refusal, used.map(|rows| rows as u32));
+        let sizes = Sizes::of_rows(used);
+        sample_call(store, &call.asked, &sizes, &listed.file, right)?;
+    }
+    Ok(())
+}
+
+/// A call on the file that stands last, without LVAR: refused, or with these rows.
+fn sample_call(
+    store: &mut Store,
+    asked: &Asked,
+    sizes: &Sizes,
+    file: &[u8],
+    (refusal, used): (Refusal, [u32; 9]),
+) -> Result<(), String> {
+    let is_refused = refusal != 0;
+    let right = Answer {
+        refusal,
+        rows: if is_refused { [0; 9] } else { used },
+        visits: 0,
+    };
+    match asked {
+        Asked::Load => sample_again(store, 2, sizes, file, right),
+        Asked::Examination => sample_again(store, 7, sizes, file, right),
+        Asked::Run(words, choices, numbers) => {
+            let right = Follow {
+                refusal,
+                numbers: if is_refused { [0; 6] } else { *numbers },
+            };
+            sample_run(store, sizes, *words, file, choices, right)
+        }
+    }
 }
 
 /// A file that has nothing but records and names, loaded and examined over so many rows of records.
@@ -483,7 +564,7 @@ fn tree_sample(store: &mut Store, file: &[u8], records: u32, right: Answer) -> R
     let sizes = Sizes::of_rows(of_records(records).map(|rows| rows as usize));
     sample_over(store, 2, &sizes, file, right)?;
     let rows = read_all(file).rows;
-    let examined = match model::passes(file, &rows) {
+    let examined = match model::passes(file, &EVERYTHING, &rows) {
         Ok(()) => right,
         Err(refusal) => Answer {
             refusal,
@@ -532,9 +613,13 @@ fn sample_again(
 ) -> Result<(), String> {
     replayable(sizes)?;
     let mut tables = garbage(sizes, &mut Rng::new(0, 0));
+    let Terms {
+        allowance,
+        ref permitted,
+    } = store.terms;
     let answer = match kind {
-        2 => Model.load(file, store.allowance, &mut tables),
-        _ => Model.examine(file, store.allowance, &mut tables),
+        2 => Model.load(file, allowance, &mut tables),
+        _ => Model.examine(file, allowance, permitted, &mut tables),
     };
     if answer != right {
         return Err(format!("a sample's answer is {answer:?}, not {right:?}"));
@@ -570,7 +655,18 @@ fn sample_run(
 ) -> Result<(), String> {
     let mut tables = garbage(sizes, &mut Rng::new(0, 0));
     let mut frames = vec![1; words];
-    let answer = Model.follow(file, store.allowance, &mut tables, &mut frames, choices);
+    let Terms {
+        allowance,
+        ref permitted,
+    } = store.terms;
+    let answer = Model.follow(
+        file,
+        allowance,
+        permitted,
+        &mut tables,
+        &mut frames,
+        choices,
+    );
     if answer != right {
         return Err(format!("along {choices:?} a sample's answer is {answer:?}"));
     }
@@ -732,7 +828,7 @@ fn examinations(store: &mut Store, file: &[u8], rng: &mut Rng) -> Result<(), Str
     for sizes in [Sizes::of_rows(needed), other_sizes(needed, rng)] {
         replayable(&sizes)?;
         let mut tables = garbage(&sizes, rng);
-        let answer = Model.examine(file, Allowance::DESKTOP, &mut tables);
+        let answer = Model.examine(file, Allowance::DESKTOP, &EVERYTHING, &mut tables);
         store.call(7, &sizes, of_load(&answer), sum(&tables, &[]));
     }
     Ok(())
@@ -749,7 +845,14 @@ fn runs(store: &mut Store, file: &[u8], number: usize, rng: &mut Rng) -> Result<
         choices.truncate(60);
         let mut tables = garbage(&sizes, rng);
         let mut frames = vec![1; words];
-        let followed = Model.follow(file, Allowance::DESKTOP, &mut tables, &mut frames, &choices);
+        let followed = Model.follow(
+            file,
+            Allowance::DESKTOP,
+            &EVERYTHING,
+            &mut tables,
+            &mut frames,
+            &choices,
+        );
         store.follow(&sizes, &followed, &tables, &frames, &choices);
     }
     Ok(())
@@ -772,7 +875,7 @@ fn examinable_files(store: &mut Store, seed: u64) -> Result<(), Stop> {
             let reading = read_all(&file);
             let examined = reading
                 .end
-                .and_then(|()| model::passes(&file, &reading.rows));
+                .and_then(|()| model::passes(&file, &EVERYTHING, &reading.rows));
             let large = file.len() > 500 || number == 0 && reading.rows.used()[0] < 2;
             if large || examined.err().unwrap_or(0) != number {
                 continue;
@@ -907,8 +1010,7 @@ fn lookups_in(store: &mut Store, file: &[u8], tables: &Tables, asked: Vec<(Looku
     store.bytes(1, file);
     let lengths = tables.iter().map(|table| table.len() as u32);
     let words: Vec<u32> = lengths.chain(tables.iter().flatten().copied()).collect();
-    assert!(words.len() <= MOST_WORDS, "more words than a replay has");
-    store.item(4, [&[words.len() as u32], &words[..]].concat());
+    store.words(&words);
     for (lookup, record, index) in asked {
         let Found { refusal, numbers } = Model.lookup(lookup, file, tables, record, index);
         let [a, b, c, d, e] = numbers;
@@ -964,7 +1066,7 @@ fn maps(store: &mut Store, seed: u64) {
             // An odd word is no row.
             words.push(rng.word());
         }
-        store.item(4, [&[words.len() as u32], &words[..]].concat());
+        store.words(&words);
         for position in lines::positions(&map, &mut rng) {
             let line = line_at(&map, position);
             store.item(5, [position, line.is_some().into(), line.unwrap_or(0)]);
@@ -1042,14 +1144,6 @@ fn tables_of(words: &[u32]) -> Result<Tables, String> {
     Ok(tables)
 }
 
-/// The allowance that the words which stand last are.
-fn allowance_of(words: &[u32]) -> Allowance {
-    match *words {
-        [bytes, records] => Allowance { bytes, records },
-        _ => Allowance::DESKTOP,
-    }
-}
-
 /// Replays stored answers with a subject; answers each group's name and number of answers.
 fn replay_items(subject: &dyn Subject, stored: &[u8]) -> Result<Vec<(String, usize)>, String> {
     let mut rng = Rng::new(0, 0);
@@ -1059,7 +1153,6 @@ fn replay_items(subject: &dyn Subject, stored: &[u8]) -> Result<Vec<(String, usi
     let mut bytes: &[u8] = &[];
     let mut map = Vec::new();
     loop {
-        let allowance = allowance_of(&map);
         let at = stored.len() - items.left.len();
         let wrong =
             |answer: &dyn std::fmt::Debug| Err(format!("byte {at}: the answer is {answer:?}"));
@@ -1076,9 +1169,13 @@ fn replay_items(subject: &dyn Subject, stored: &[u8]) -> Result<Vec<(String, usi
                 let rows = items.numbers()?;
                 let [visits, stored] = items.numbers()?;
                 let mut tables = garbage(&sizes, &mut rng);
+                let Terms {
+                    allowance,
+                    permitted,
+                } = Terms::of(&map)?;
                 let answer = match kind {
                     2 => subject.load(bytes, allowance, &mut tables),
-                    _ => subject.examine(bytes, allowance, &mut tables),
+                    _ => subject.examine(bytes, allowance, &permitted, &mut tables),
                 };
                 let sum = sum(&tables, &[]);
                 let right = Answer {
@@ -1133,7 +1230,18 @@ fn replay_items(subject: &dyn Subject, stored: &[u8]) -> Result<Vec<(String, usi
                 let length = items.number()? as usize;
                 let choices = items.bytes(length)?;
                 let mut tables = garbage(&sizes, &mut rng);
-                let answer = subject.follow(bytes, allowance, &mut tables, &mut frames, choices);
+                let Terms {
+                    allowance,
+                    permitted,
+                } = Terms::of(&map)?;
+                let answer = subject.follow(
+                    bytes,
+                    allowance,
+                    &permitted,
+                    &mut tables,
+                    &mut frames,
+                    choices,
+                );
                 let sum = sum(&tables, &frames);
                 if (of_follow(&answer), sum) != (numbers, stored) {
                     return wrong(&(answer, sum));
@@ -1231,7 +1339,7 @@ mod tests {
             (allowed(64, 0), 29),
             (Allowance::DESKTOP, 0),
         ] {
-            store.allow(allowance);
+            store.state(Terms::with_everything(allowance));
             calls.push(store.bytes.len());
             let right = Answer {
                 refusal,
@@ -1253,6 +1361,79 @@ mod tests {
             changed[calls[call] - before + 3] = other;
             assert!(replay_items(&Model, &changed).is_err(), "{call} {before}");
         }
+    }
+
+    #[test]
+    fn words_state_terms() {
+        for length in 0..=260usize {
+            let terms = Terms {
+                allowance: Allowance::PREVIEW,
+                permitted: (1..=length).map(|byte| byte as u8).collect(),
+            };
+            let words = terms.words();
+            assert_eq!(words.len(), 3 + length.div_ceil(4));
+            assert_eq!(words[2], length as u32);
+            assert_eq!(Terms::of(&words), Ok(terms));
+            if length > 0 {
+                assert!(Terms::of(&words[..words.len() - 1]).is_err());
+            }
+        }
+        for allowance in [Allowance::DESKTOP, Allowance::PREVIEW] {
+            let terms = Terms::with_everything(allowance);
+            assert_eq!(Terms::of(&terms.words()), Ok(terms));
+        }
+        assert_eq!(Terms::default().words(), []);
+        assert_eq!(Terms::with_everything(Allowance::PREVIEW).words().len(), 2);
+    }
+
+    #[test]
+    fn a_replay_is_for_the_list_that_stands_last() {
+        let file = file_a();
+        let mut needed = [0; 62];
+        [needed[17], needed[61]] = [1, 2];
+        let mut store = Store::default();
+        store.bytes(1, &file);
+        let mut calls = Vec::new();
+        for (permitted, refusal) in [
+            (&needed[..], 0),
+            (&[], 32),
+            (&[1; 61], 32),
+            (&[1; 62], 0),
+            (&EVERYTHING, 0),
+        ] {
+            store.state(Terms {
+                allowance: Allowance::DESKTOP,
+                permitted: permitted.to_vec(),
+            });
+            calls.push(store.bytes.len());
+            let right = Answer {
+                refusal,
+                rows: of_records(u32::from(refusal == 0)),
+                visits: 0,
+            };
+            sample_again(&mut store, 7, &ONE_ROW, &file, right).unwrap();
+        }
+        store.bytes(6, b"all");
+        store.item(0, []);
+        let bytes = store.bytes;
+        let groups = Ok(vec![("all".to_owned(), 5)]);
+        assert_eq!(replay_items(&Model, &bytes), groups);
+        // The list's bytes stand before the call, two bytes of zeros behind them.
+        let list = calls[0] - 64;
+        for (place, other) in [
+            (list + 17, 0),
+            (list + 61, 0),
+            (list - 1, 61),
+            (list - 8 + 2, 0),
+        ] {
+            let mut changed = bytes.clone();
+            changed[place] = other;
+            assert!(replay_items(&Model, &changed).is_err(), "{place}");
+        }
+        let mut same = bytes.clone();
+        same[list + 17] = 255;
+        same[list + 62] = 1;
+        assert_eq!(replay_items(&Model, &same), groups);
     }
 
     #[test]

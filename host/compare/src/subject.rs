@@ -90,14 +90,21 @@ pub trait Subject {
     /// Loads under an allowance over lent tables, whose words hold anything before the call.
     fn load(&self, file: &[u8], allowance: Allowance, tables: &mut Tables) -> Answer;
 
-    /// Examines over lent tables, as a load does.
-    fn examine(&self, file: &[u8], allowance: Allowance, tables: &mut Tables) -> Answer;
+    /// Examines for a list of permitted opcodes over lent tables, as a load does.
+    fn examine(
+        &self,
+        file: &[u8],
+        allowance: Allowance,
+        permitted: &[u8],
+        tables: &mut Tables,
+    ) -> Answer;
 
     /// Follows choices over lent tables and a frame table.
     fn follow(
         &self,
         file: &[u8],
         allowance: Allowance,
+        permitted: &[u8],
         tables: &mut Tables,
         frames: &mut Vec<u32>,
         choices: &[u8],
@@ -135,8 +142,14 @@ impl Subject for Model {
         answer
     }
 
-    fn examine(&self, file: &[u8], allowance: Allowance, tables: &mut Tables) -> Answer {
-        let loaded = model::examine(file, allowance, &lent(tables));
+    fn examine(
+        &self,
+        file: &[u8],
+        allowance: Allowance,
+        permitted: &[u8],
+        tables: &mut Tables,
+    ) -> Answer {
+        let loaded = model::examine(file, allowance, permitted, &lent(tables));
         let answer = Answer::of(&loaded);
         *tables = loaded.tables;
         answer
@@ -146,11 +159,13 @@ impl Subject for Model {
         &self,
         file: &[u8],
         allowance: Allowance,
+        permitted: &[u8],
         tables: &mut Tables,
         frames: &mut Vec<u32>,
         choices: &[u8],
     ) -> Follow {
-        let followed = model::follow(file, allowance, &lent(tables), frames.len(), choices);
+        let lent = lent(tables);
+        let followed = model::follow(file, allowance, permitted, &lent, frames.len(), choices);
         *tables = followed.loaded.tables;
         *frames = followed.frame_table;
         let (record, offset) = followed.top.unwrap_or_default();

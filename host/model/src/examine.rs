@@ -1,30 +1,34 @@
-//! Examination: 15 over the tree, then 16 to 20 and 25 record by record.
+//! Examination: 15 over the tree, then 16 to 20, 25 and 32 record by record.
 
 use crate::Refusal;
 use crate::allowance::Allowance;
 use crate::insn::{Flow, OPCODES, Role, flow, is_prefix, roles};
 use crate::load::read;
+use crate::permitted::permits_step;
 use crate::registers::last_register;
 use crate::rows::{Loaded, Record, Rows, Sizes};
 
-/// Loads a file under an allowance and examines it; a file that passes answers what its load answers.
-pub fn examine(file: &[u8], allowance: Allowance, lent: &Sizes) -> Loaded {
+/// Loads a file under an allowance and examines it for a list of permitted opcodes; a file that passes answers what its load answers.
+pub fn examine(file: &[u8], allowance: Allowance, permitted: &[u8], lent: &Sizes) -> Loaded {
     let reading = read(file, allowance, lent.rows());
-    match reading.end.and_then(|()| passes(file, &reading.rows)) {
+    let examined = reading
+        .end
+        .and_then(|()| passes(file, permitted, &reading.rows));
+    match examined {
         Ok(()) => reading.rows.loaded(lent),
         Err(number) => Loaded::refused(number, lent),
     }
 }
 
-/// Examines a loaded file; "Passing then means meeting none of 15 to 20 and 25."
-pub fn passes(file: &[u8], rows: &Rows) -> Result<(), Refusal> {
+/// Examines a loaded file; "Passing then means meeting none of 15 to 20, 25 and 32."
+pub fn passes(file: &[u8], permitted: &[u8], rows: &Rows) -> Result<(), Refusal> {
     let records = &rows.records.rows;
     let rlens: Vec<u32> = records.iter().map(|r| r.rlen).collect();
     if !is_whole(&rlens) {
         return Err(15);
     }
     for record in records {
-        examine_record(file, rows, record)?;
+        examine_record(file, permitted, rows, record)?;
     }
     Ok(())
 }
@@ -157,8 +161,18 @@ fn steps(code: &[u8]) -> Result<Vec<Step>, Refusal> {
     Ok(steps)
 }
 
-fn examine_record(file: &[u8], rows: &Rows, record: &Record) -> Result<(), Refusal> {
+/// Examines a record of a loaded file by itself.
+pub fn examine_record(
+    file: &[u8],
+    permitted: &[u8],
+    rows: &Rows,
+    record: &Record,
+) -> Result<(), Refusal> {
     let steps = steps(code(file, record))?;
+    // "32 when a record holds an opcode not permitted, after 16 and 25 over that record, before any 17 there."
+    if !steps.iter().all(|step| permits_step(permitted, step)) {
+        return Err(32);
+    }
     let begins = |offset: i64| {
         steps
             .binary_search_by_key(&offset, |step| step.offset as i64)

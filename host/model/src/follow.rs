@@ -65,6 +65,7 @@ pub fn choices(bytes: &[u8]) -> Result<Vec<Choice>, Refusal> {
 pub fn follow(
     file: &[u8],
     allowance: Allowance,
+    permitted: &[u8],
     lent: &Sizes,
     frame_words: usize,
     bytes: &[u8],
@@ -76,7 +77,7 @@ pub fn follow(
         if frame_words / 2 < reading.rows.records.rows.len() {
             return Err(14);
         }
-        passes(file, &reading.rows)?;
+        passes(file, permitted, &reading.rows)?;
         choices(bytes)
     };
     let list = match tested() {

@@ -1,4 +1,4 @@
-//! Paper 01 and requests a) to e), g), h), j) and m) of paper 02 as plain Rust: slow, readable, without any `unsafe`. Opcode names and operand kinds are
+//! Paper 01 and requests a) to e), g), h), j), m) and n) of paper 02 as plain Rust: slow, readable, without any `unsafe`. Opcode names and operand kinds are
 //! those of insn.rs.
 //!
 //! Comments in quotation marks are the papers' own words.
@@ -13,11 +13,12 @@ mod insn;
 mod line;
 mod load;
 mod lookup;
+mod permitted;
 mod registers;
 mod rows;
 
 pub use allowance::Allowance;
-pub use examine::{Step, bound, child, examine, is_whole, passes, step_at};
+pub use examine::{Step, bound, child, examine, examine_record, is_whole, passes, step_at};
 pub use follow::{Choice, Followed, choices, follow};
 pub use insn::{Fetched, Flow, Kind, OPCODES, Opcode, Role, fetch, flow, is_prefix, roles};
 pub use line::{Packed, line_at, packed};
@@ -26,6 +27,7 @@ pub use lookup::{
     Constant, FoundFile, FoundHandler, FoundText, debug_file, handler, instructions, line, name,
     pool, symbol,
 };
+pub use permitted::{EVERYTHING, permits};
 pub use registers::{Registers, last_register, registers};
 pub use rows::{
     DebugFile, Entry, Handler, Loaded, NAMES, Name, PoolRow, RECORD_WORDS, ROW_WORDS, Record, Rows,

@@ -232,6 +232,11 @@ fn the_same_rows_under_any_that_is_nowhere_smaller() {
     }
 }
 
+/// The run of a file with every opcode permitted.
+fn run(file: &[u8], allowed: Allowance, frame_words: usize, choices: &[u8]) -> Followed {
+    follow(file, allowed, &EVERYTHING, &lent(9), frame_words, choices)
+}
+
 /// A refusal leaves zeros, and an examination and a run answer what the load meets.
 #[test]
 fn examination_and_a_run_load_first() {
@@ -243,18 +248,18 @@ fn examination_and_a_run_load_first() {
         for file in [&file, &bad] {
             let refused = Loaded::refused(29, &lent);
             assert_eq!(load(file, small, &lent), refused);
-            assert_eq!(examine(file, small, &lent), refused);
+            assert_eq!(examine(file, small, &EVERYTHING, &lent), refused);
             // Neither the frame table's 14 nor 21 comes before it.
-            let followed = follow(file, small, &lent, 0, &[5]);
+            let followed = run(file, small, 0, &[5]);
             assert_eq!(followed.loaded, refused);
         }
     }
-    assert_eq!(examine(&bad, of_records(3), &lent).refusal, 16);
+    assert_eq!(examine(&bad, of_records(3), &EVERYTHING, &lent).refusal, 16);
     let own = allowance(file.len() as u32, 3);
-    let passed = examine(&file, own, &lent);
+    let passed = examine(&file, own, &EVERYTHING, &lent);
     assert_eq!(passed, load(&file, Allowance::DESKTOP, &lent));
-    let followed = follow(&file, own, &lent, 6, &[0]);
+    let followed = run(&file, own, 6, &[0]);
     assert!(followed.finished);
     assert_eq!(followed.loaded, passed);
-    assert_eq!(follow(&file, own, &lent, 5, &[]).loaded.refusal, 14);
+    assert_eq!(run(&file, own, 5, &[]).loaded.refusal, 14);
 }

@@ -76,7 +76,7 @@ fn texts_with_zeros_are_those_of_the_program() {
 fn all_pass() {
     for (name, file) in corpus() {
         assert_eq!(
-            examine(&file, Allowance::DESKTOP, &exact(&file)).refusal,
+            examine(&file, Allowance::DESKTOP, &EVERYTHING, &exact(&file)).refusal,
             0,
             "{name}"
         );
@@ -184,6 +184,7 @@ fn every_choice_keeps_the_frames_within_the_records() {
             let followed = follow(
                 &file,
                 Allowance::DESKTOP,
+                &EVERYTHING,
                 &lent,
                 records as usize * 2,
                 &choices,

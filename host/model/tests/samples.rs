@@ -83,7 +83,17 @@ fn refusal(file: &[u8]) -> Refusal {
 }
 
 fn examined(file: &[u8]) -> Refusal {
-    examine(file, Allowance::DESKTOP, &enough()).refusal
+    examined_over(file, &enough())
+}
+
+fn examined_over(file: &[u8], lent: &Sizes) -> Refusal {
+    examine(file, Allowance::DESKTOP, &EVERYTHING, lent).refusal
+}
+
+/// The run of a file on the desktop, with every opcode permitted.
+fn run(file: &[u8], lent: &Sizes, frame_words: usize, choices: &[u8]) -> Followed {
+    let allowance = Allowance::DESKTOP;
+    follow(file, allowance, &EVERYTHING, lent, frame_words, choices)
 }
 
 /// A file with one record of this code, two registers, two constants, one symbol and no child.
@@ -125,7 +135,7 @@ fn file_a_loads() {
 
 #[test]
 fn file_a_is_followed() {
-    let go = |n: usize| follow(&file_a(), Allowance::DESKTOP, &enough(), 2, &vec![0; n]);
+    let go = |n: usize| run(&file_a(), &enough(), 2, &vec![0; n]);
     let one = go(1);
     assert_eq!(one.loaded.refusal, 0);
     assert_eq!(
@@ -157,12 +167,7 @@ fn no_record() {
     assert_eq!(refusal(&short), 0);
     assert_eq!(load(&short, Allowance::DESKTOP, &enough()).rows, [0; 9]);
     assert_eq!(examined(&short), 15);
-    assert_eq!(
-        follow(&short, Allowance::DESKTOP, &enough(), 0, &[])
-            .loaded
-            .refusal,
-        15
-    );
+    assert_eq!(run(&short, &enough(), 0, &[]).loaded.refusal, 15);
     assert_eq!(refusal(&short[..31]), 4);
     assert_eq!(refusal(&sized(&short[..31], 32)), 28);
     short[27] = 0;
@@ -599,12 +604,7 @@ fn idents() {
         let drawing = changed(&a, 0, other);
         assert_eq!(refusal(&drawing), 27, "{other:?}");
         assert_eq!(examined(&drawing), 27, "{other:?}");
-        assert_eq!(
-            follow(&drawing, Allowance::DESKTOP, &enough(), 0, &[5])
-                .loaded
-                .refusal,
-            27
-        );
+        assert_eq!(run(&drawing, &enough(), 0, &[5]).loaded.refusal, 27);
     }
 }
 
@@ -971,7 +971,7 @@ fn cuts_are_refused() {
 
 /// The frames that choices leave, of five at most.
 fn frames_after(file: &[u8], choices: &[u8]) -> Vec<u32> {
-    let followed = follow(file, Allowance::DESKTOP, &enough(), 10, choices);
+    let followed = run(file, &enough(), 10, choices);
     assert_eq!(followed.loaded.refusal, 0);
     let mut table = followed.frame_table;
     assert!(
@@ -1012,7 +1012,7 @@ fn frames_of_children() {
     assert_eq!(frames(&[4, 2, 0]), []);
     assert_eq!(frames(&[2, 2, 2, 1, 2]), [0, 3, 3, 0]);
     let refused = |words: usize, choices: &[u8]| {
-        let followed = follow(&file, Allowance::DESKTOP, &enough(), words, choices);
+        let followed = run(&file, &enough(), words, choices);
         assert!(followed.frame_table.iter().all(|w| *w == 0));
         followed.loaded.refusal
     };
@@ -1100,19 +1100,13 @@ fn children_above_255() {
             [116, 97, 0, high, low, 118].to_vec(),
             [117, 105, 0, 0, high, low, 118].to_vec(),
         ] {
-            let followed = follow(
-                &with_300_children(&code),
-                Allowance::DESKTOP,
-                &lent,
-                604,
-                &[2],
-            );
+            let followed = run(&with_300_children(&code), &lent, 604, &[2]);
             assert_eq!(followed.loaded.refusal, 0);
             assert_eq!(followed.top, Some((record, 0)), "{code:?}");
         }
     }
     let past = with_300_children(&[116, 97, 0, 1, 44, 118]);
-    assert_eq!(examine(&past, Allowance::DESKTOP, &lent).refusal, 17);
+    assert_eq!(examined_over(&past, &lent), 17);
 }
 
 /// The refusal of a file over enough rows, but for one table without any.

@@ -1,5 +1,8 @@
 //! The words of the command line.
 
+use super::near::meant;
+use super::school::{Rule, School};
+use super::terms::Terms;
 use super::text;
 use blotheath::Allowance;
 use std::ffi::{OsStr, OsString};
@@ -14,18 +17,18 @@ pub enum Command {
     Version,
     Examine {
         paths: Vec<PathBuf>,
-        allowance: Allowance,
+        terms: Terms,
         json: bool,
     },
     Load {
         path: PathBuf,
-        allowance: Allowance,
+        terms: Terms,
         json: bool,
         all: bool,
     },
     Steps {
         path: PathBuf,
-        allowance: Allowance,
+        terms: Terms,
         source: Option<PathBuf>,
         json: bool,
         all: bool,
@@ -33,7 +36,7 @@ pub enum Command {
     Follow(Follow),
     Report {
         path: PathBuf,
-        allowance: Allowance,
+        terms: Terms,
         output: Option<PathBuf>,
         source: Option<PathBuf>,
         force: bool,
@@ -47,7 +50,7 @@ pub enum Command {
 #[derive(Debug, PartialEq, Eq)]
 pub struct Follow {
     pub path: PathBuf,
-    pub allowance: Allowance,
+    pub terms: Terms,
     pub choices: Vec<String>,
     pub source: Option<PathBuf>,
     pub json: bool,
@@ -66,6 +69,8 @@ struct Words {
     preview: bool,
     max_bytes: Option<u32>,
     max_records: Option<u32>,
+    /// What is permitted and forbidden, in the order of the words.
+    rules: Vec<Rule>,
     output: Option<PathBuf>,
     source: Option<PathBuf>,
 }
@@ -82,21 +87,53 @@ impl Words {
             records: self.max_records.unwrap_or(start.records),
         }
     }
+
+    fn terms(&self) -> Result<Terms, String> {
+        Ok(Terms {
+            allowance: self.allowance(),
+            school: School::of(&self.rules)?,
+        })
+    }
 }
 
-/// The options that each command has.
-#[rustfmt::skip]
-const OPTIONS: [(&str, &[&str]); 6] = [
-    ("examine", &["--json", "--preview", "--max-bytes", "--max-records"]),
-    ("load", &["--json", "--all", "--preview", "--max-bytes", "--max-records"]),
-    ("steps", &["--json", "--all", "--source", "--preview", "--max-bytes", "--max-records"]),
-    ("follow", &["--json", "--each", "--source", "--preview", "--max-bytes", "--max-records"]),
-    ("report", &["-o", "--output", "--source", "--force", "--preview", "--max-bytes", "--max-records"]),
-    ("opcodes", &["--json"]),
+/// The options of an allowance, and those of permitted opcodes, which only an examination looks at.
+const ALLOWANCE: &[&str] = &["--preview", "--max-bytes", "--max-records"];
+const SCHOOL: &[&str] = &["--permit", "--forbid", "--school"];
+
+/// The options that each command has, group by group.
+const OPTIONS: [(&str, &[&[&str]]); 6] = [
+    ("examine", &[&["--json"], ALLOWANCE, SCHOOL]),
+    ("load", &[&["--json", "--all"], ALLOWANCE]),
+    (
+        "steps",
+        &[&["--json", "--all", "--source"], ALLOWANCE, SCHOOL],
+    ),
+    (
+        "follow",
+        &[&["--json", "--each", "--source"], ALLOWANCE, SCHOOL],
+    ),
+    (
+        "report",
+        &[
+            &["-o", "--output", "--source", "--force"],
+            ALLOWANCE,
+            SCHOOL,
+        ],
+    ),
+    ("opcodes", &[&["--json"]]),
 ];
 
 /// The options that have a value behind them.
-const VALUED: [&str; 5] = ["-o", "--output", "--source", "--max-bytes", "--max-records"];
+const VALUED: [&str; 8] = [
+    "-o",
+    "--output",
+    "--source",
+    "--max-bytes",
+    "--max-records",
+    "--permit",
+    "--forbid",
+    "--school",
+];
 
 /// What stands in place of a command.
 const GENERAL: [&str; 5] = ["help", "--help", "-h", "--version", "-V"];
@@ -116,7 +153,7 @@ pub fn read(words: &[OsString]) -> Result<Command, String> {
     let Some((_, options)) = OPTIONS.iter().find(|(command, _)| *command == name) else {
         return Err(no_command(&name));
     };
-    let words = sort(&name, rest, options)?;
+    let words = sort(&name, rest, &options.concat())?;
     if words.help {
         return Ok(Command::Help(Some(name.into_owned())));
     }
@@ -136,50 +173,8 @@ fn help(rest: &[OsString]) -> Result<Command, String> {
 
 fn no_command(name: &str) -> String {
     let known = OPTIONS.iter().map(|(command, _)| *command);
-    let hint = meant(name, known.chain(GENERAL));
+    let hint = meant(name, known.chain(GENERAL), 1);
     format!("there is no command {}{hint}", text::word(name))
-}
-
-/// A question for the known word that is nearest to an unknown one, where one is near.
-fn meant<'k>(word: &str, known: impl Iterator<Item = &'k str>) -> String {
-    let length = word.chars().count();
-    let near = known
-        .map(|known| (distance(word, known), known))
-        .filter(|(distance, _)| 3 * distance <= length)
-        .min();
-    match near {
-        Some((_, known)) => format!("; did you mean {known}?"),
-        None => String::new(),
-    }
-}
-
-/// How many letters have to be put in, taken out, changed or swapped with the next to make one word of the other.
-fn distance(from: &str, to: &str) -> usize {
-    let (from, to): (Vec<char>, Vec<char>) =
-        (from.chars().take(32).collect(), to.chars().collect());
-    let mut costs = vec![vec![0; to.len() + 1]; from.len() + 1];
-    for row in 0..=from.len() {
-        for column in 0..=to.len() {
-            costs[row][column] = match (row, column) {
-                (0, number) | (number, 0) => number,
-                _ => {
-                    let changed = usize::from(from[row - 1] != to[column - 1]);
-                    let mut cost = (costs[row - 1][column - 1] + changed)
-                        .min(costs[row - 1][column] + 1)
-                        .min(costs[row][column - 1] + 1);
-                    if row > 1
-                        && column > 1
-                        && from[row - 2] == to[column - 1]
-                        && from[row - 1] == to[column - 2]
-                    {
-                        cost = cost.min(costs[row - 2][column - 2] + 1);
-                    }
-                    cost
-                }
-            };
-        }
-    }
-    costs[from.len()][to.len()]
 }
 
 /// Sorts the words behind a command; behind `--` all are plain.
@@ -198,7 +193,7 @@ fn sort(command: &str, rest: &[OsString], options: &[&str]) -> Result<Words, Str
             if name == "--help" || name == "-h" {
                 words.help = true;
             } else if !options.contains(&name.as_ref()) {
-                let hint = meant(&name, options.iter().copied());
+                let hint = meant(&name, options.iter().copied(), 1);
                 let name = text::word(&name);
                 return Err(format!("{command} has no option {name}{hint}"));
             } else {
@@ -246,10 +241,20 @@ fn option<'a>(
     match name {
         "--max-bytes" => words.max_bytes = Some(number(name, value)?),
         "--max-records" => words.max_records = Some(number(name, value)?),
+        "--permit" | "--forbid" | "--school" => words.rules.push(rule(name, value)),
         "--source" => words.source = Some(value.into()),
         _ => words.output = Some(value.into()),
     }
     Ok(())
+}
+
+fn rule(name: &str, value: &OsStr) -> Rule {
+    let names = || value.to_string_lossy().into_owned();
+    match name {
+        "--permit" => Rule::Permit(names()),
+        "--forbid" => Rule::Forbid(names()),
+        _ => Rule::File(value.into()),
+    }
 }
 
 /// The number that digits say; one that passes 32 bits is the largest of them.
@@ -268,7 +273,7 @@ fn number(name: &str, value: &OsStr) -> Result<u32, String> {
 }
 
 fn build(name: &str, words: Words) -> Result<Command, String> {
-    let allowance = words.allowance();
+    let terms = words.terms()?;
     let mut plain = words.plain.into_iter();
     if name == "opcodes" {
         return match plain.next() {
@@ -285,19 +290,19 @@ fn build(name: &str, words: Words) -> Result<Command, String> {
             let paths = std::iter::once(path).chain(plain.by_ref().map(PathBuf::from));
             Command::Examine {
                 paths: paths.collect(),
-                allowance,
+                terms,
                 json,
             }
         }
         "load" => Command::Load {
             path,
-            allowance,
+            terms,
             json,
             all,
         },
         "steps" => Command::Steps {
             path,
-            allowance,
+            terms,
             source: words.source,
             json,
             all,
@@ -306,7 +311,7 @@ fn build(name: &str, words: Words) -> Result<Command, String> {
             let choices = plain.by_ref().map(|word| word.to_string_lossy().into());
             Command::Follow(Follow {
                 path,
-                allowance,
+                terms,
                 choices: choices.collect(),
                 source: words.source,
                 json,
@@ -315,7 +320,7 @@ fn build(name: &str, words: Words) -> Result<Command, String> {
         }
         _ => Command::Report {
             path,
-            allowance,
+            terms,
             output: words.output,
             source: words.source,
             force: words.force,
@@ -345,21 +350,21 @@ mod tests {
         assert_eq!(parse("load -h"), Ok(Command::Help(Some("load".into()))));
         let load = Command::Load {
             path: path.clone(),
-            allowance: Allowance::DESKTOP,
+            terms: Terms::default(),
             json: true,
             all: false,
         };
         assert_eq!(parse("load --json a"), Ok(load));
         let examine = Command::Examine {
             paths: vec!["-".into(), "--json".into()],
-            allowance: Allowance::DESKTOP,
+            terms: Terms::default(),
             json: false,
         };
         assert_eq!(parse("examine - -- --json"), Ok(examine));
         let report = || {
             Ok(Command::Report {
                 path: path.clone(),
-                allowance: Allowance::DESKTOP,
+                terms: Terms::default(),
                 output: Some("b".into()),
                 source: Some("c=d".into()),
                 force: true,
@@ -380,7 +385,7 @@ mod tests {
     /// The allowance that options of `load` say.
     fn allowed(options: &str) -> Result<(u32, u32), String> {
         match parse(&format!("load a {options}"))? {
-            Command::Load { allowance, .. } => Ok((allowance.bytes, allowance.records)),
+            Command::Load { terms, .. } => Ok((terms.allowance.bytes, terms.allowance.records)),
             other => panic!("{other:?}"),
         }
     }
@@ -427,6 +432,56 @@ mod tests {
         assert!(parse("opcodes --preview").is_err());
     }
 
+    /// How many opcodes options of a command forbid.
+    fn forbidden(command: &str, options: &str) -> Result<usize, String> {
+        let terms = match parse(&format!("{command} a {options}"))? {
+            Command::Examine { terms, .. }
+            | Command::Load { terms, .. }
+            | Command::Steps { terms, .. }
+            | Command::Report { terms, .. } => terms,
+            Command::Follow(follow) => follow.terms,
+            other => panic!("{other:?}"),
+        };
+        Ok(terms.school.permitted.forbidden().count())
+    }
+
+    #[test]
+    fn permitted_opcodes() {
+        for command in ["examine", "steps", "follow", "report"] {
+            for (options, right) in [
+                ("", 0),
+                ("--forbid CLASS", 1),
+                ("--forbid=class,MODULE,103", 2),
+                ("--forbid prefixes --permit EXT1", 2),
+                ("--permit prefixes", 116),
+                ("--permit prefixes --forbid EXT1 --permit STOP", 116),
+                ("--permit everything --forbid globals", 4),
+                ("--forbid everything", 119),
+            ] {
+                assert_eq!(
+                    forbidden(command, options),
+                    Ok(right),
+                    "{command} {options}"
+                );
+            }
+            for (options, told) in [
+                ("--forbid", "--forbid has no value"),
+                ("--permit=", "--permit has no value"),
+                ("--school=", "--school has no value"),
+                ("--forbid ,", "--forbid: no opcode and no group is named"),
+                ("--school /no/such", "/no/such: no such file"),
+            ] {
+                assert_eq!(forbidden(command, options), Err(told.to_owned()));
+            }
+        }
+        for command in ["load", "opcodes"] {
+            for option in ["--forbid", "--permit", "--school"] {
+                let told = format!("{command} has no option \"{option}\"");
+                assert_eq!(forbidden(command, &format!("{option} CLASS")), Err(told));
+            }
+        }
+    }
+
     #[test]
     fn near_words() {
         for (line, hint) in [
@@ -441,6 +496,8 @@ mod tests {
             ("follow a --eahc", "; did you mean --each?"),
             ("load a --max-byte=5", "; did you mean --max-bytes?"),
             ("examine a --previw", "; did you mean --preview?"),
+            ("report a --forbidd=CLASS", "; did you mean --forbid?"),
+            ("follow a --shcool=b", "; did you mean --school?"),
         ] {
             let fault = parse(line).unwrap_err();
             assert!(fault.ends_with(hint), "{line}: {fault}");
@@ -451,7 +508,6 @@ mod tests {
         }
         let long = "é".repeat(70_000);
         assert!(parse(&long).unwrap_err().len() < 200);
-        assert_eq!(distance("abc", "acbd"), 2);
     }
 
     #[test]

@@ -1,13 +1,12 @@
 //! `blotheath examine`: a verdict for each file.
 
-use super::allowance;
 use super::input::{self, Found, Input};
 use super::json::Json;
 use super::style::Style;
+use super::terms::{self, Terms};
 use super::text::{self, counted};
 use super::verdict::{Verdict, judge};
 use super::{Status, complain, identity, tell};
-use blotheath::Allowance;
 use std::io::{self, IsTerminal, Write};
 use std::path::PathBuf;
 
@@ -35,20 +34,20 @@ pub fn run(
     out: &mut dyn Write,
     style: Style,
     paths: &[PathBuf],
-    allowance: Allowance,
+    terms: &Terms,
     json: bool,
 ) -> io::Result<Status> {
     let found = input::find(paths);
     if json {
-        return write_json(out, &found, allowance);
+        return write_json(out, &found, terms);
     }
-    allowance::write(out, style, allowance)?;
+    terms::write(out, style, terms)?;
     let mut tally = Tally::default();
     let mut progress = Progress::new(found.len());
     for file in &found {
         progress.draw(out)?;
         let name = text::path(&file.path);
-        let input = read(file, allowance);
+        let input = read(file, terms);
         let verdict = input.as_ref().map(|input| (input, judge(input)));
         progress.erase();
         match verdict {
@@ -73,10 +72,10 @@ pub fn run(
 }
 
 /// Reads a file that was found.
-fn read(found: &Found, allowance: Allowance) -> Result<Input, String> {
+fn read(found: &Found, terms: &Terms) -> Result<Input, String> {
     match &found.fault {
         Some(fault) => Err(text::fault(fault)),
-        None => input::read(&found.path, allowance).map_err(|fault| text::fault(&fault)),
+        None => input::read(&found.path, terms).map_err(|fault| text::fault(&fault)),
     }
 }
 
@@ -140,7 +139,7 @@ fn summary(tally: &Tally) -> String {
     summary
 }
 
-fn write_json(out: &mut dyn Write, found: &[Found], allowance: Allowance) -> io::Result<Status> {
+fn write_json(out: &mut dyn Write, found: &[Found], terms: &Terms) -> io::Result<Status> {
     let mut tally = Tally::default();
     let mut json = Json::new(out);
     json.object(|json| {
@@ -148,7 +147,7 @@ fn write_json(out: &mut dyn Write, found: &[Found], allowance: Allowance) -> io:
         json.key("files")?.array(|json| {
             for file in found {
                 json.line()?;
-                json.object(|json| write_file(json, file, allowance, &mut tally))?;
+                json.object(|json| write_file(json, file, terms, &mut tally))?;
             }
             Ok(())
         })?;
@@ -166,14 +165,9 @@ fn write_json(out: &mut dyn Write, found: &[Found], allowance: Allowance) -> io:
     Ok(tally.status())
 }
 
-fn write_file(
-    json: &mut Json,
-    file: &Found,
-    allowance: Allowance,
-    tally: &mut Tally,
-) -> io::Result<()> {
+fn write_file(json: &mut Json, file: &Found, terms: &Terms, tally: &mut Tally) -> io::Result<()> {
     json.key("file")?.string(&file.path.to_string_lossy())?;
-    let input = match read(file, allowance) {
+    let input = match read(file, terms) {
         Ok(input) => input,
         Err(fault) => {
             tally.unread += 1;
@@ -185,7 +179,7 @@ fn write_file(
         true => tally.passed += 1,
         false => tally.refused += 1,
     }
-    allowance::member(json, allowance)?;
+    terms::members(json, terms)?;
     verdict.members(json)
 }
 

@@ -1,6 +1,5 @@
 //! `blotheath follow`: a run along choices.
 
-use super::allowance;
 use super::args::Follow;
 use super::beside::{self, Beside};
 use super::choices::{self, Choices, told};
@@ -10,12 +9,12 @@ use super::meaning::{Meaning, Reader, registers_member, touched};
 use super::nesting;
 use super::source::Source;
 use super::style::Style;
+use super::terms;
 use super::text::{self, counted};
 use super::verdict::{judge, refusal_members};
 use super::{Status, complain, unusable};
 use blotheath::{
-    Before, Choice, Excess, Flow, Frame, Pattern, Refusal, Run, Standing, Step, Tree, flow,
-    looks_like, opcode_name,
+    Before, Choice, Flow, Frame, Pattern, Refusal, Run, Standing, Step, Tree, flow, opcode_name,
 };
 use std::io::{self, BufRead, IsTerminal, Write};
 use std::path::Path;
@@ -35,7 +34,7 @@ pub fn run(out: &mut dyn Write, style: Style, asked: &Follow) -> io::Result<Stat
             return Ok(Status::Unusable);
         }
     };
-    let file = match input::read(path, asked.allowance) {
+    let file = match input::read(path, &asked.terms) {
         Ok(file) => file,
         Err(fault) => return Ok(unusable(&name, &fault)),
     };
@@ -50,13 +49,16 @@ pub fn run(out: &mut dyn Write, style: Style, asked: &Follow) -> io::Result<Stat
     if asked.json {
         return write_json(out, path, &file, source, &choices, each, answer);
     }
-    allowance::write(out, style, file.allowance)?;
+    terms::write(out, style, &file.terms)?;
     match answer {
         Err(refusal) => refused(out, style, &name, &file, refusal),
         Ok(_) if asks => ask(out, style, &file, source),
         Ok(answer) => list(out, style, &file, source, &choices, each, &answer),
     }
 }
+
+/// The refusal of choices, which says nothing of the file.
+const BAD_CHOICE: Refusal = Refusal(21);
 
 /// Says why there is no run.
 fn refused(
@@ -66,9 +68,9 @@ fn refused(
     file: &Input,
     refusal: Refusal,
 ) -> io::Result<Status> {
-    let sentence = match refusal.number() {
-        21 => refusal.to_string(),
-        _ => format!("{name}: {}", judge(file).sentence()),
+    let sentence = match refusal == BAD_CHOICE {
+        true => refusal.to_string(),
+        false => format!("{name}: {}", judge(file).sentence()),
     };
     writeln!(out, "{}", style.bad(&sentence))?;
     Ok(Status::Refused)
@@ -407,7 +409,7 @@ fn write_json(
     json.object(|json| {
         json.key("file")?.string(&path.to_string_lossy())?;
         super::identity::members(json)?;
-        allowance::member(json, file.allowance)?;
+        terms::members(json, &file.terms)?;
         json.key("choices")?.number(choices.number() as i64)?;
         status = match &answer {
             Ok(answer) => write_run(json, file, source, choices, each, answer)?,
@@ -430,8 +432,10 @@ fn write_refusal(
         json.line()?;
         json.object(|json| {
             json.key("choices")?.number(choices.number() as i64)?;
-            let excess = Excess::of_examination(&file.bytes, file.allowance, refusal);
-            refusal_members(json, refusal, looks_like(&file.bytes), excess.as_ref())
+            match refusal == BAD_CHOICE {
+                true => refusal_members(json, refusal, None, None),
+                false => judge(file).refusal_members(json),
+            }
         })
     })?;
     Ok(Status::Refused)
@@ -573,12 +577,12 @@ impl Misses {
 #[cfg(test)]
 mod tests {
     use super::*;
-    use blotheath::Allowance;
+    use crate::command::terms::Terms;
 
     fn sample() -> Input {
         Input {
             bytes: include_bytes!("../../../samples/oval.mrb").to_vec(),
-            allowance: Allowance::DESKTOP,
+            terms: Terms::default(),
         }
     }
 

@@ -1,6 +1,7 @@
 //! Help.
 
 use super::Status;
+use blotheath::Group;
 use std::io::{self, Write};
 
 /// The help on everything, which the script `blotheath` of the repository writes too before anything is built.
@@ -8,6 +9,7 @@ const GENERAL: &str = include_str!("help.txt");
 
 const EXAMINE: &str = "\
 blotheath examine FILE.. [--json] [--preview] [--max-bytes N] [--max-records N]
+                  [--forbid NAMES] [--permit NAMES] [--school FILE]
 
 A line for each file: it passes, with its numbers of records, constants, names and lines; or it is refused, with the
 refusal's number, a sentence, and the record, offset and source line where that can be told. Of a file that does not begin
@@ -19,6 +21,7 @@ Examples
     blotheath examine oval.mrb
     blotheath examine patterns/ more.mrb
     blotheath examine patterns/ --preview
+    blotheath examine patterns/ --school lower-school.txt
     cat oval.mrb | blotheath examine -
 ";
 
@@ -54,6 +57,7 @@ Examples
 
 const STEPS: &str = "\
 blotheath steps FILE [--source SOURCE.rb] [--json] [--all] [--preview] [--max-bytes N] [--max-records N]
+                [--forbid NAMES] [--permit NAMES] [--school FILE]
 
 Each instruction of each record: its offset, name, operands with their meaning, and source line. A record's head tells where
 it stands among the others: inside 1, depth 2 for one that record 1 contains, outermost for record 0, never reached for any
@@ -75,6 +79,7 @@ Examples
 
 const FOLLOW: &str = "\
 blotheath follow FILE [CHOICE..] [--each] [--source SOURCE.rb] [--json] [--preview] [--max-bytes N] [--max-records N]
+                 [--forbid NAMES] [--permit NAMES] [--school FILE]
 
 Runs a file that passes, from its first instruction, along the choices, and shows the frames with their lines, and where their
 records stand among the others, as `steps` tells it; in JSON each frame has the \"depth\" and the \"parent\" of its record.
@@ -101,6 +106,7 @@ Examples
 
 const REPORT: &str = "\
 blotheath report FILE [-o PAGE.html] [--source SOURCE.rb] [--force] [--preview] [--max-bytes N] [--max-records N]
+                 [--forbid NAMES] [--permit NAMES] [--school FILE]
 
 One page that needs nothing else: the verdict, what is proved and what that rests on, the constants with where they stand in
 the file, the steps beside their source lines, and a picture of the records, in which each has a link to the record that
@@ -126,6 +132,28 @@ are counted as they are read, and the first one too many decides, whatever follo
 is told first. In JSON \"allowance\" is always there, and \"excess\" where a file is beyond it.
 ";
 
+/// What the help on every command that examines a file has behind that, before a line for each group.
+const PERMITTED: &str = "
+Permitted opcodes
+    --forbid NAMES     these are not permitted
+    --permit NAMES     these are permitted; where this comes first, these alone
+    --school FILE      as the lines of FILE say: forbid NAMES, permit NAMES, or a comment behind #
+Without these every opcode is permitted. NAMES are opcodes as `blotheath opcodes` lists them, in letters of any case, their
+numbers, or groups, parted by commas; in a file by blanks too. The options may be repeated, and count in the order in which
+they stand, the lines of a file in its place; one behind the others changes what they say: --school FILE --permit CLASS.
+Where the first of them forbids, all else is permitted. Where it permits, nothing else is: what every pattern needs has to be
+named too, as values and returns, and the prefixes, which no name but their own and everything permits; a pattern that is
+large enough to need them is else refused.
+
+Every step that a file holds counts, also where no run reaches it. A step behind a prefix needs both to be permitted. A file
+that holds what is not is refused by 32. That tells the first such step of the first record that has one, and how to permit
+it. What a called method does is no step of the file: Class.new makes a class by a call alone. What is permitted is told
+first, where it is not everything or where a file says so. In JSON \"permitted\" is always there, and \"not_permitted\" where
+32 is met.
+
+Groups
+";
+
 const OPCODES: &str = "\
 blotheath opcodes [--json]
 
@@ -141,23 +169,42 @@ instruction begins is refused by 18. A plain operand that counts no registers ma
 
 The kinds are the proved archive's answers; the rest is this program's own, and tests hold all but the names against what
 the archive fetches, examines and follows. In JSON \"behind\" has the sizes by the prefix's byte; they are null for a prefix.
+Behind them stand the groups that --permit and --forbid take, with their opcodes; in JSON \"groups\".
 
 Examples
     blotheath opcodes
     blotheath opcodes --json | jq '.opcodes[] | select(.kind == \"BB\")'
 ";
 
+/// What the help on a command ends with.
+enum End {
+    Nothing,
+    Allowance,
+    /// An allowance, and permitted opcodes.
+    Terms,
+}
+
 /// Writes the help on everything, or on one command.
 pub fn write(out: &mut dyn Write, topic: Option<&str>) -> io::Result<Status> {
     let (text, end) = match topic {
-        Some("examine") => (EXAMINE, ALLOWANCE),
-        Some("load") => (LOAD, ALLOWANCE),
-        Some("steps") => (STEPS, ALLOWANCE),
-        Some("follow") => (FOLLOW, ALLOWANCE),
-        Some("report") => (REPORT, ALLOWANCE),
-        Some("opcodes") => (OPCODES, ""),
-        _ => (GENERAL, ""),
+        Some("examine") => (EXAMINE, End::Terms),
+        Some("load") => (LOAD, End::Allowance),
+        Some("steps") => (STEPS, End::Terms),
+        Some("follow") => (FOLLOW, End::Terms),
+        Some("report") => (REPORT, End::Terms),
+        Some("opcodes") => (OPCODES, End::Nothing),
+        _ => (GENERAL, End::Nothing),
     };
-    write!(out, "{text}{end}")?;
+    write!(out, "{text}")?;
+    match end {
+        End::Nothing => {}
+        End::Allowance => write!(out, "{ALLOWANCE}")?,
+        End::Terms => {
+            write!(out, "{ALLOWANCE}{PERMITTED}")?;
+            for group in Group::all() {
+                writeln!(out, "    {:<18} {}", group.name, group.about)?;
+            }
+        }
+    }
     Ok(Status::Passed)
 }

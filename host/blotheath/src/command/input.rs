@@ -1,8 +1,9 @@
 //! Reading of files and walking of folders.
 
+use super::terms::Terms;
 use blotheath::{
-    Allowance, FILE_LIMIT, Pattern, Place, Refusal, Standing, examine_within, follow_within,
-    load_within, locate_within,
+    Excess, FILE_LIMIT, Pattern, Permitted, Place, Refusal, Standing, examine_within,
+    follow_within, load_within, locate_within,
 };
 use std::fs::{self, File, Metadata};
 use std::io::{self, Read};
@@ -10,34 +11,51 @@ use std::os::fd::AsFd;
 use std::os::unix::fs::MetadataExt;
 use std::path::{Path, PathBuf};
 
-/// The bytes of a file, and the allowance that it is read under.
+/// The bytes of a file, and the terms that it is read on.
 pub struct Input {
     pub bytes: Vec<u8>,
-    pub allowance: Allowance,
+    pub terms: Terms,
 }
 
 impl Input {
     pub fn load(&self) -> Result<Pattern<'_>, Refusal> {
-        load_within(&self.bytes, self.allowance)
+        load_within(&self.bytes, self.terms.allowance)
     }
 
     pub fn examine(&self) -> Result<Pattern<'_>, Refusal> {
-        examine_within(&self.bytes, self.allowance)
+        examine_within(&self.bytes, self.terms.allowance, self.permitted())
     }
 
     pub fn follow(&self, choices: &[u8]) -> Result<Standing, Refusal> {
-        follow_within(&self.bytes, self.allowance, choices)
+        follow_within(&self.bytes, self.terms.allowance, self.permitted(), choices)
     }
 
     pub fn locate(&self, pattern: Option<&Pattern>, refusal: Refusal) -> Option<Place> {
-        locate_within(&self.bytes, self.allowance, pattern, refusal)
+        locate_within(
+            &self.bytes,
+            self.terms.allowance,
+            self.permitted(),
+            pattern,
+            refusal,
+        )
+    }
+
+    /// How far the file is beyond its allowance, by the refusal of an examination or a run.
+    pub fn excess(&self, refusal: Refusal) -> Option<Excess> {
+        Excess::of_examination(&self.bytes, self.terms.allowance, self.permitted(), refusal)
+    }
+
+    fn permitted(&self) -> &Permitted {
+        &self.terms.school.permitted
     }
 }
 
-/// A file under an allowance: its bytes up to one past the longest file's, whatever the allowance is; `-` is standard input.
-pub fn read(path: &Path, allowance: Allowance) -> io::Result<Input> {
-    let bytes = read_bytes(path)?;
-    Ok(Input { bytes, allowance })
+/// A file on terms: its bytes up to one past the longest file's, whatever the allowance is; `-` is standard input.
+pub fn read(path: &Path, terms: &Terms) -> io::Result<Input> {
+    Ok(Input {
+        bytes: read_bytes(path)?,
+        terms: terms.clone(),
+    })
 }
 
 fn read_bytes(path: &Path) -> io::Result<Vec<u8>> {

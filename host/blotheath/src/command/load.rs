@@ -5,10 +5,11 @@ use super::input::Input;
 use super::json::Json;
 use super::nesting;
 use super::style::Style;
+use super::terms::Terms;
 use super::text::{self, counted, grouped};
 use super::verdict::{self, count_members};
 use super::{MOST_SHOWN, Status, input, unusable};
-use blotheath::{Allowance, Constant, Excess, Pattern, Record, Refusal, Text, looks_like};
+use blotheath::{Constant, Excess, Pattern, Record, Refusal, Text, looks_like};
 use std::cell::Cell;
 use std::io::{self, Write};
 use std::path::Path;
@@ -17,12 +18,12 @@ pub fn run(
     out: &mut dyn Write,
     style: Style,
     path: &Path,
-    allowance: Allowance,
+    terms: &Terms,
     json: bool,
     all: bool,
 ) -> io::Result<Status> {
     let name = text::path(path);
-    let file = match input::read(path, allowance) {
+    let file = match input::read(path, terms) {
         Ok(file) => file,
         Err(fault) => return Ok(unusable(&name, &fault)),
     };
@@ -30,7 +31,7 @@ pub fn run(
     if json {
         write_json(out, path, &file, &loaded, all)?;
     } else {
-        allowance::write(out, style, allowance)?;
+        allowance::write(out, style, terms.allowance)?;
         match &loaded {
             Ok(pattern) => {
                 let counts = pattern.counts();
@@ -46,8 +47,9 @@ pub fn run(
             }
             Err(refusal) => {
                 let place = file.locate(None, *refusal);
-                let excess = Excess::of_load(&file.bytes, allowance, *refusal);
-                let sentence = verdict::refused(*refusal, place.as_ref(), excess.as_ref());
+                let excess = Excess::of_load(&file.bytes, terms.allowance, *refusal);
+                let beyond = excess.as_ref().map(allowance::beyond);
+                let sentence = verdict::refused(*refusal, place.as_ref(), beyond.as_deref());
                 writeln!(out, "{name}: {}", style.bad(&sentence))?;
             }
         }
@@ -438,13 +440,13 @@ fn write_json(
     json.object(|json| {
         json.key("file")?.string(&path.to_string_lossy())?;
         super::identity::members(json)?;
-        allowance::member(json, file.allowance)?;
+        allowance::member(json, file.terms.allowance)?;
         json.key("loads")?.boolean(loaded.is_ok())?;
         match loaded {
             Ok(pattern) => write_rows(json, pattern, all),
             Err(refusal) => {
                 let (place, like) = (file.locate(None, *refusal), looks_like(&file.bytes));
-                let excess = Excess::of_load(&file.bytes, file.allowance, *refusal);
+                let excess = Excess::of_load(&file.bytes, file.terms.allowance, *refusal);
                 verdict::refusal_members(json, *refusal, like, excess.as_ref())?;
                 verdict::place_member(json, place.as_ref())
             }

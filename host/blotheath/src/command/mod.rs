@@ -15,13 +15,16 @@ mod labels;
 mod lines;
 mod load;
 mod meaning;
+mod near;
 mod nesting;
 mod opcodes;
 mod report;
+mod school;
 mod sha256;
 mod source;
 mod steps;
 mod style;
+mod terms;
 mod text;
 mod verdict;
 
@@ -57,37 +60,35 @@ pub fn run(words: &[OsString]) -> io::Result<Status> {
     let status = match command {
         Command::Help(topic) => help::write(&mut out, topic.as_deref()),
         Command::Version => identity::write_version(&mut out),
-        Command::Examine {
-            paths,
-            allowance,
-            json,
-        } => examine::run(&mut out, style, &paths, allowance, json),
+        Command::Examine { paths, terms, json } => {
+            examine::run(&mut out, style, &paths, &terms, json)
+        }
         Command::Load {
             path,
-            allowance,
+            terms,
             json,
             all,
-        } => load::run(&mut out, style, &path, allowance, json, all),
+        } => load::run(&mut out, style, &path, &terms, json, all),
         Command::Steps {
             path,
-            allowance,
+            terms,
             source,
             json,
             all,
         } => {
             let source = source.as_deref();
-            steps::run(&mut out, style, &path, allowance, source, json, all)
+            steps::run(&mut out, style, &path, &terms, source, json, all)
         }
         Command::Follow(asked) => follow::run(&mut out, style, &asked),
         Command::Report {
             path,
-            allowance,
+            terms,
             output,
             source,
             force,
         } => {
             let (output, source) = (output.as_deref(), source.as_deref());
-            report::run(&mut out, style, &path, allowance, output, source, force)
+            report::run(&mut out, style, &path, &terms, output, source, force)
         }
         Command::Opcodes { json } => opcodes::run(&mut out, style, json),
     }?;

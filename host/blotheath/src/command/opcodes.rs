@@ -4,7 +4,7 @@ use super::json::Json;
 use super::load::aligned;
 use super::style::Style;
 use super::{Status, identity};
-use blotheath::{Flow, Opcode, PREFIXES, Role};
+use blotheath::{Flow, Group, Opcode, PREFIXES, Role};
 use std::io::{self, Write};
 
 /// What stands above the columns.
@@ -46,7 +46,30 @@ fn write(out: &mut dyn Write, style: Style) -> io::Result<()> {
     writeln!(out, "{ABOUT}")?;
     writeln!(out, "{}", style.dim(&line(&heads)))?;
     rows.iter()
-        .try_for_each(|row| writeln!(out, "{}", line(row)))
+        .try_for_each(|row| writeln!(out, "{}", line(row)))?;
+    writeln!(out, "\nGroups, as --permit and --forbid take them")?;
+    Group::all().try_for_each(|group| write_group(out, style, group))
+}
+
+/// The columns of a line of opcodes, and what it begins with before the blank of its first.
+const COLUMNS: usize = 100;
+const INDENT: &str = "   ";
+
+/// Writes a group and, where these are not all, its opcodes.
+fn write_group(out: &mut dyn Write, style: Style, group: &Group) -> io::Result<()> {
+    writeln!(out, "  {}: {}", style.bold(group.name), group.about)?;
+    if group.opcodes().eq(Opcode::all().map(|opcode| opcode.byte)) {
+        return Ok(());
+    }
+    let mut line = INDENT.to_owned();
+    for name in group.names {
+        if line.len() + name.len() > COLUMNS {
+            writeln!(out, "{}", line.trim_end())?;
+            line.truncate(INDENT.len());
+        }
+        line += &format!(" {name}");
+    }
+    writeln!(out, "{line}")
 }
 
 /// The cells of a line.
@@ -107,9 +130,23 @@ fn write_json(out: &mut dyn Write) -> io::Result<()> {
                 json.object(|json| members(json, &opcode))?;
             }
             Ok(())
+        })?;
+        json.key("groups")?.array(|json| {
+            for group in Group::all() {
+                json.line()?;
+                json.object(|json| group_members(json, group))?;
+            }
+            Ok(())
         })
     })?;
     json.end()
+}
+
+fn group_members(json: &mut Json, group: &Group) -> io::Result<()> {
+    json.key("name")?.string(group.name)?;
+    json.key("about")?.string(group.about)?;
+    json.key("opcodes")?
+        .array(|json| group.names.iter().try_for_each(|name| json.string(name)))
 }
 
 fn members(json: &mut Json, opcode: &Opcode) -> io::Result<()> {

@@ -1,6 +1,5 @@
 //! `blotheath steps`: the instructions of each record.
 
-use super::allowance;
 use super::arrows::{Arrow, Margin};
 use super::beside::{self, Beside};
 use super::json::Json;
@@ -10,10 +9,11 @@ use super::meaning::{Meaning, Reader, registers_member, touched};
 use super::nesting;
 use super::source::Source;
 use super::style::Style;
+use super::terms::{self, Terms};
 use super::text::{self, counted, grouped};
 use super::verdict::{Verdict, judge};
 use super::{MOST_SHOWN, Status, input, unusable};
-use blotheath::{Allowance, BadStep, Pattern, Record, Step, Tree, opcode_name};
+use blotheath::{BadStep, Pattern, Record, Step, Tree, opcode_name};
 use std::io::{self, Write};
 use std::path::Path;
 
@@ -21,13 +21,13 @@ pub fn run(
     out: &mut dyn Write,
     style: Style,
     path: &Path,
-    allowance: Allowance,
+    terms: &Terms,
     source: Option<&Path>,
     json: bool,
     all: bool,
 ) -> io::Result<Status> {
     let name = text::path(path);
-    let file = match input::read(path, allowance) {
+    let file = match input::read(path, terms) {
         Ok(file) => file,
         Err(fault) => return Ok(unusable(&name, &fault)),
     };
@@ -37,9 +37,9 @@ pub fn run(
     };
     let verdict = judge(&file);
     if json {
-        write_json(out, path, allowance, &verdict, source.as_ref(), all)?;
+        write_json(out, path, terms, &verdict, source.as_ref(), all)?;
     } else {
-        allowance::write(out, style, allowance)?;
+        terms::write(out, style, terms)?;
         write(out, style, &name, &verdict, source.as_ref(), all)?;
     }
     Ok(match verdict.passes() {
@@ -294,7 +294,7 @@ impl View<'_, '_, '_> {
 fn write_json(
     out: &mut dyn Write,
     path: &Path,
-    allowance: Allowance,
+    terms: &Terms,
     verdict: &Verdict,
     source: Option<&Source>,
     all: bool,
@@ -303,7 +303,7 @@ fn write_json(
     json.object(|json| {
         json.key("file")?.string(&path.to_string_lossy())?;
         super::identity::members(json)?;
-        allowance::member(json, allowance)?;
+        terms::members(json, terms)?;
         verdict.members(json)?;
         let Some(pattern) = verdict.pattern() else {
             return Ok(());

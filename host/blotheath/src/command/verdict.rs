@@ -3,8 +3,9 @@
 use super::allowance::{self, excess_member};
 use super::input::Input;
 use super::json::Json;
+use super::school::{Forbidden, School, forbidden_member};
 use super::text::{counted, grouped, visible};
-use blotheath::{Counts, Excess, NameWalk, Pattern, Place, Refusal, looks_like};
+use blotheath::{Counts, Excess, Frame, NameWalk, Pattern, Place, Refusal, looks_like};
 use std::io;
 
 /// What examination says of a file.
@@ -17,6 +18,8 @@ pub enum Verdict<'a> {
         looks_like: Option<&'static str>,
         /// How far a file is beyond its allowance.
         excess: Option<Excess>,
+        /// What of a step is not permitted.
+        forbidden: Option<Forbidden>,
         /// The pattern, where the file loads all the same.
         pattern: Option<Pattern<'a>>,
     },
@@ -32,13 +35,34 @@ pub fn judge(file: &Input) -> Verdict<'_> {
         true => file.load().ok(),
         false => None,
     };
+    let place = file.locate(pattern.as_ref(), refusal);
+    let forbidden = match refusal == NOT_PERMITTED {
+        true => forbidden(&file.terms.school, pattern.as_ref(), place.as_ref()),
+        false => None,
+    };
     Verdict::Refused {
         refusal,
-        place: file.locate(pattern.as_ref(), refusal),
+        place,
         looks_like: looks_like(&file.bytes),
-        excess: Excess::of_examination(&file.bytes, file.allowance, refusal),
+        excess: file.excess(refusal),
+        forbidden,
         pattern,
     }
+}
+
+/// The refusal of a file that holds what is not permitted.
+const NOT_PERMITTED: Refusal = Refusal(32);
+
+/// What is not permitted at a place of a pattern.
+fn forbidden(
+    school: &School,
+    pattern: Option<&Pattern>,
+    place: Option<&Place>,
+) -> Option<Forbidden> {
+    let (pattern, place) = (pattern?, place?);
+    let (record, offset) = (place.record?, place.offset?);
+    let step = pattern.step_at(Frame { record, offset })?;
+    Some(school.forbidden(pattern, &step))
 }
 
 impl<'a> Verdict<'a> {
@@ -70,8 +94,13 @@ impl<'a> Verdict<'a> {
                 refusal,
                 place,
                 excess,
+                forbidden,
                 ..
-            } => refused(*refusal, place.as_ref(), excess.as_ref()),
+            } => {
+                let beyond = excess.as_ref().map(allowance::beyond);
+                let hint = forbidden.as_ref().map(|forbidden| forbidden.hint.clone());
+                refused(*refusal, place.as_ref(), beyond.or(hint).as_deref())
+            }
         }
     }
 
@@ -80,28 +109,39 @@ impl<'a> Verdict<'a> {
         json.key("passes")?.boolean(self.passes())?;
         match self {
             Verdict::Passes(pattern) => count_members(json, pattern.counts()),
-            Verdict::Refused {
-                refusal,
-                place,
-                looks_like,
-                excess,
-                ..
-            } => {
-                refusal_members(json, *refusal, *looks_like, excess.as_ref())?;
-                place_member(json, place.as_ref())
-            }
+            Verdict::Refused { .. } => self.refusal_members(json),
         }
+    }
+
+    /// The refusal, with what is known of it, as members of a JSON object; none where the file passes.
+    pub fn refusal_members(&self, json: &mut Json) -> io::Result<()> {
+        let Verdict::Refused {
+            refusal,
+            place,
+            looks_like,
+            excess,
+            forbidden,
+            ..
+        } = self
+        else {
+            return Ok(());
+        };
+        refusal_members(json, *refusal, *looks_like, excess.as_ref())?;
+        if let Some(forbidden) = forbidden {
+            forbidden_member(json, forbidden)?;
+        }
+        place_member(json, place.as_ref())
     }
 }
 
-/// A refusal in one line, with its place and how far the file is beyond its allowance.
-pub fn refused(refusal: Refusal, place: Option<&Place>, excess: Option<&Excess>) -> String {
+/// A refusal in one line, with its place and what else there is to say of it.
+pub fn refused(refusal: Refusal, place: Option<&Place>, behind: Option<&str>) -> String {
     let mut sentence = refusal.to_string();
     if let Some(place) = place {
         sentence += &format!(" ({})", told(place));
     }
-    if let Some(excess) = excess {
-        sentence += &format!("; {}", allowance::beyond(excess));
+    if let Some(behind) = behind {
+        sentence += &format!("; {behind}");
     }
     sentence
 }

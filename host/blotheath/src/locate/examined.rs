@@ -1,8 +1,9 @@
-//! Where a refusal by 15 to 20 or 25 lies: a search over the loaded rows, in examination's order.
+//! Where a refusal by 15 to 20, 25 or 32 lies: a search over the loaded rows, in examination's order.
 
 use super::Place;
-use crate::opcode::{Flow, Role, flow};
+use crate::opcode::{Flow, Role, flow, name};
 use crate::pattern::{Pattern, Record};
+use crate::permitted::Permitted;
 use crate::step::{BadStep, Step};
 
 /// The bytes of a handler, and of those before its target.
@@ -12,8 +13,8 @@ const BEFORE_TARGET: u32 = 9;
 /// The operands of an instruction in words.
 const ORDINALS: [&str; 3] = ["first", "second", "third"];
 
-/// The first refusal that examination meets, and where.
-pub fn search(pattern: &Pattern) -> Option<(u32, Place)> {
+/// The first refusal that examination for permitted opcodes meets, and where.
+pub fn search(pattern: &Pattern, permitted: &Permitted) -> Option<(u32, Place)> {
     if let Some(what) = broken_tree(pattern) {
         let place = Place {
             section: (pattern.counts().records > 0).then_some("IREP"),
@@ -28,7 +29,7 @@ pub fn search(pattern: &Pattern) -> Option<(u32, Place)> {
     let mut begins = Begins::default();
     for (number, record) in pattern.records().enumerate() {
         let number = number as u32;
-        if let Some(found) = search_record(pattern, number, &record, &mut begins) {
+        if let Some(found) = search_record(pattern, permitted, number, &record, &mut begins) {
             let offset = found.offset;
             let place = Place {
                 section: Some(found.section),
@@ -159,6 +160,7 @@ impl Begins {
 
 fn search_record(
     pattern: &Pattern,
+    permitted: &Permitted,
     number: u32,
     record: &Record,
     begins: &mut Begins,
@@ -168,19 +170,46 @@ fn search_record(
         return Found::at(16, record, 0, "the record has no instructions".to_owned());
     }
     begins.clear(code.len());
+    let mut forbidden = None;
     for step in pattern.steps(number).ok()? {
         match step {
-            Ok(step) => begins.mark(&step),
+            Ok(step) => {
+                begins.mark(&step);
+                forbidden = forbidden.or_else(|| search_forbidden(record, &step, permitted));
+            }
             Err(bad) => return Some(Found::unreadable(record, bad)),
         }
     }
-    let steps = pattern.steps(number).ok()?.flatten();
-    for step in steps {
-        if let Some(found) = search_step(record, &step, begins) {
-            return Some(found);
+    let mut steps = pattern.steps(number).ok()?.flatten();
+    forbidden
+        .or_else(|| steps.find_map(|step| search_step(record, &step, begins)))
+        .or_else(|| search_handlers(pattern, number, record, begins))
+        .or_else(|| search_lines(pattern, record))
+}
+
+/// A prefix or an opcode that is not permitted; the byte is its own, that of the prefix where neither is.
+fn search_forbidden(record: &Record, step: &Step, permitted: &Permitted) -> Option<Found> {
+    let first = permitted.forbidden_of(step).next()?;
+    let is_prefix = step.prefix == Some(first);
+    let opcode = name(step.opcode).unwrap_or_default();
+    let what = match step.prefix.and_then(name) {
+        None => format!("{opcode} is not permitted"),
+        Some(prefix) if !is_prefix => {
+            format!("{opcode} behind the prefix {prefix} is not permitted")
         }
-    }
-    search_handlers(pattern, number, record, begins).or_else(|| search_lines(pattern, record))
+        Some(prefix) if permitted.permits(step.opcode) => {
+            format!("the prefix {prefix} before {opcode} is not permitted")
+        }
+        Some(prefix) => format!("the prefix {prefix} and {opcode} behind it are not permitted"),
+    };
+    let before = u32::from(step.prefix.is_some() && !is_prefix);
+    Some(Found {
+        refusal: 32,
+        section: "IREP",
+        byte: Some(record.place + step.offset + before),
+        offset: Some(step.offset),
+        what,
+    })
 }
 
 fn search_step(record: &Record, step: &Step, begins: &Begins) -> Option<Found> {

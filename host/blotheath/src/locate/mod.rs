@@ -7,6 +7,7 @@ mod forward;
 
 use crate::allowance::Allowance;
 use crate::pattern::Pattern;
+use crate::permitted::Permitted;
 use crate::refusal::Refusal;
 
 /// Where a refusal lies.
@@ -23,20 +24,23 @@ pub struct Place {
     pub what: String,
 }
 
-/// The place of a file's refusal under the desktop's allowance.
+/// The place of a file's refusal under the desktop's allowance, every opcode being permitted.
 pub fn locate(file: &[u8], pattern: Option<&Pattern>, refusal: Refusal) -> Option<Place> {
-    locate_within(file, Allowance::DESKTOP, pattern, refusal)
+    let permitted = Permitted::everything();
+    locate_within(file, Allowance::DESKTOP, &permitted, pattern, refusal)
 }
 
-/// The place of a file's refusal under an allowance: by examination over the pattern that it loads to, by loading over its bytes alone.
+/// The place of a file's refusal under an allowance: by examination for permitted opcodes over the pattern that it loads to, by loading over its bytes
+/// alone.
 pub fn locate_within(
     file: &[u8],
     allowance: Allowance,
+    permitted: &Permitted,
     pattern: Option<&Pattern>,
     refusal: Refusal,
 ) -> Option<Place> {
     let (number, place) = match pattern {
-        Some(pattern) => examined::search(pattern),
+        Some(pattern) => examined::search(pattern, permitted),
         None => forward::search(file, allowance),
     }?;
     (number == refusal.number()).then_some(place)

@@ -141,6 +141,8 @@ pub const HASHADD: u8 = 95;
 pub const LAMBDA: u8 = 97;
 pub const BLOCK: u8 = 98;
 pub const METHOD: u8 = 99;
+pub const CLASS: u8 = 103;
+pub const EXEC: u8 = 105;
 pub const TDEF: u8 = 107;
 pub const SDEF: u8 = 108;
 pub const EXT1: u8 = 115;
@@ -414,4 +416,24 @@ fn dbg(records: usize) -> Vec<u8> {
     let mut content = vec![0, 1, 0, 1, b'x'];
     content.extend(record.repeat(records));
     section(b"DBG\0", &content)
+}
+
+/// Where CLASS stands in a pattern that defines a class, and EXEC.
+pub const AT_CLASS: u32 = 4;
+pub const AT_EXEC: u32 = 7;
+
+/// A pattern that defines a class whose body is its second record.
+#[rustfmt::skip]
+pub fn class() -> Vec<u8> {
+    let code = [
+        LOADNIL, 1,
+        LOADNIL, 2,
+        CLASS, 1, 0,
+        EXEC, 1, 0,
+        RETURN, 1,
+        STOP,
+    ];
+    let main = record(1, &code, &[], &[b"Oval"]);
+    let body = record(0, &[LOADNIL, 1, RETURN, 1], &[], &[]);
+    file(&[irep(&[main, body].concat())])
 }

@@ -5,11 +5,14 @@
 pub mod build;
 pub mod json;
 
-use blotheath::{Place, examine, follow, load, locate};
+use blotheath::{Pattern, Permitted, Place, examine, follow, load, locate};
 use std::fs;
 use std::io::Write;
 use std::path::{Path, PathBuf};
 use std::process::{Command, Stdio};
+
+/// Every opcode.
+pub const EVERYTHING: Permitted = Permitted::everything();
 
 /// The repository's own sample.
 pub fn sample() -> PathBuf {
@@ -51,6 +54,15 @@ pub fn refused(file: &[u8]) -> (u32, Place) {
     let place = locate(file, load(file).ok().as_ref(), refusal);
     let place = place.unwrap_or_else(|| panic!("{refusal} has no place in {file:?}"));
     (refusal.number(), place)
+}
+
+/// The opcodes of a pattern's steps, prefixes too.
+pub fn held(pattern: &Pattern) -> Vec<u8> {
+    let records = 0..pattern.counts().records;
+    let steps = records.flat_map(|number| pattern.steps(number).unwrap().flatten());
+    steps
+        .flat_map(|step| step.prefix.into_iter().chain([step.opcode]))
+        .collect()
 }
 
 /// What a command gave.

@@ -12,6 +12,7 @@ enum When {
     Loading,
     Once,
     RecordsCode,
+    RecordsOpcodes,
     EachStep,
     RecordsHandlers,
     RecordsMap,
@@ -34,7 +35,7 @@ const fn condition(refusals: &'static [u32], when: When, sentence: &'static str)
 }
 
 /// The conditions in examination's order.
-const CONDITIONS: [Condition; 7] = [
+const CONDITIONS: [Condition; 8] = [
     condition(
         &[],
         When::Loading,
@@ -45,6 +46,11 @@ const CONDITIONS: [Condition; 7] = [
         &[16, 25],
         When::RecordsCode,
         "Every record has instructions, and all of them can be read, each prefix with the opcode behind it.",
+    ),
+    condition(
+        &[32],
+        When::RecordsOpcodes,
+        "Every opcode of a step is permitted, and every prefix.",
     ),
     condition(
         &[17],
@@ -221,7 +227,7 @@ pub fn write(out: &mut dyn Write, verdict: &Verdict) -> io::Result<()> {
         let order = match pattern {
             Some(_) => {
                 "Examination ends at the first condition that does not hold. It looks at 15 first, then at each record in turn: at 16 and 25 in one \
-                 reading of all of its instructions, at 17 and then 18 at each step, at 19, at 20."
+                 reading of all of its instructions, at 32 at all of them, at 17 and then 18 at each step, at 19, at 20."
             }
             None => "A file that does not load is not examined.",
         };
@@ -258,7 +264,7 @@ mod tests {
     #[test]
     fn a_file_that_does_not_load() {
         for number in [7, 27, 28, 29] {
-            assert_eq!(told(number, None), ["not looked at"; 6]);
+            assert_eq!(told(number, None), ["not looked at"; 7]);
         }
     }
 
@@ -266,7 +272,7 @@ mod tests {
     fn a_tree_that_is_not_whole() {
         let states = told(15, None);
         assert_eq!(states[0], "holds");
-        assert_eq!(states[1..], ["not looked at"; 5]);
+        assert_eq!(states[1..], ["not looked at"; 6]);
     }
 
     #[test]
@@ -279,14 +285,23 @@ mod tests {
         for number in [16, 25] {
             assert_eq!(
                 told(number, Some(at(3, Some(7)))),
-                ["holds", "holds", up_to_2, up_to_2, up_to_2, up_to_2]
+                [
+                    "holds", "holds", up_to_2, up_to_2, up_to_2, up_to_2, up_to_2
+                ]
             );
         }
+        assert_eq!(
+            told(32, Some(at(3, Some(7)))),
+            [
+                "holds", "holds", up_to_3, up_to_2, up_to_2, up_to_2, up_to_2
+            ]
+        );
         assert_eq!(
             told(17, Some(at(3, Some(7)))),
             [
                 "holds",
                 "holds",
+                up_to_3,
                 up_to_3,
                 &steps("before offset 7"),
                 up_to_2,
@@ -299,6 +314,7 @@ mod tests {
                 "holds",
                 "holds",
                 up_to_3,
+                up_to_3,
                 &steps("up to offset 7"),
                 up_to_2,
                 up_to_2
@@ -306,24 +322,29 @@ mod tests {
         );
         assert_eq!(
             told(19, Some(at(3, None))),
-            ["holds", "holds", up_to_3, up_to_3, up_to_3, up_to_2]
+            [
+                "holds", "holds", up_to_3, up_to_3, up_to_3, up_to_3, up_to_2
+            ]
         );
         assert_eq!(
             told(20, Some(at(3, None))),
-            ["holds", "holds", up_to_3, up_to_3, up_to_3, up_to_3]
+            [
+                "holds", "holds", up_to_3, up_to_3, up_to_3, up_to_3, up_to_3
+            ]
         );
     }
 
     #[test]
     fn the_first_and_the_last_record() {
-        assert_eq!(told(17, Some(at(0, Some(0))))[3..], ["not looked at"; 3]);
+        assert_eq!(told(17, Some(at(0, Some(0))))[4..], ["not looked at"; 3]);
+        assert_eq!(told(32, Some(at(0, Some(0))))[3..], ["not looked at"; 4]);
         let states = told(18, Some(at(0, Some(0))));
         assert_eq!(
-            states[3],
+            states[4],
             "holds in record 0 up to offset 0; not looked at further on"
         );
         let states = told(20, Some(at(5, None)));
-        assert_eq!(states, ["holds"; 6]);
+        assert_eq!(states, ["holds"; 7]);
     }
 
     #[test]
@@ -340,6 +361,7 @@ mod tests {
         assert_eq!(CONDITIONS[0].numbers(), "1 to 14, 27 to 29");
         assert_eq!(CONDITIONS[1].numbers(), "15");
         assert_eq!(CONDITIONS[2].numbers(), "16, 25");
+        assert_eq!(CONDITIONS[3].numbers(), "32");
         assert_eq!(runs([].into_iter()), "");
         assert_eq!(runs([1, 3, 4, 6, 7, 8].into_iter()), "1, 3, 4, 6 to 8");
     }

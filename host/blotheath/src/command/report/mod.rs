@@ -16,37 +16,41 @@ mod proof;
 mod steps;
 mod tree;
 
-use super::allowance;
 use super::beside::stranger;
 use super::source::{self, Source};
 use super::style::Style;
+use super::terms::{self, Terms};
 use super::text;
 use super::verdict::judge;
 use super::{Status, complain, input, unusable};
-use blotheath::Allowance;
 use output::Output;
 use page::Page;
 use std::fs;
 use std::io::{self, Write};
-use std::path::Path;
+use std::path::{Path, PathBuf};
 
 pub fn run(
     out: &mut dyn Write,
     style: Style,
     path: &Path,
-    allowance: Allowance,
+    terms: &Terms,
     output: Option<&Path>,
     source: Option<&Path>,
     force: bool,
 ) -> io::Result<Status> {
     let name = text::path(path);
-    let file = match input::read(path, allowance) {
+    let file = match input::read(path, terms) {
         Ok(file) => file,
         Err(fault) => return Ok(unusable(&name, &fault)),
     };
-    let read = [Some(input::metadata(path)), source.map(fs::metadata)];
-    let read = read.into_iter().flatten().flatten();
-    let read: Vec<_> = read.map(|read| input::identity(&read)).collect();
+    let others = terms
+        .school
+        .files
+        .iter()
+        .map(PathBuf::as_path)
+        .chain(source);
+    let read = std::iter::once(input::metadata(path)).chain(others.map(fs::metadata));
+    let read: Vec<_> = read.flatten().map(|read| input::identity(&read)).collect();
     let source = match source.map(Source::read).transpose() {
         Ok(source) => source,
         Err((name, fault)) => return Ok(unusable(&name, &fault)),
@@ -68,7 +72,7 @@ pub fn run(
     let page = Page {
         name: &name,
         file: &file.bytes,
-        allowance,
+        terms,
         verdict: &verdict,
         source: source.as_ref(),
     };
@@ -79,7 +83,7 @@ pub fn run(
         if let Err(fault) = written {
             return Ok(unusable(&output_name, &fault));
         }
-        allowance::write(out, style, allowance)?;
+        terms::write(out, style, terms)?;
         let sentence = verdict.sentence();
         writeln!(out, "{name}: {sentence}")?;
         writeln!(out, "{output_name} is written")?;

@@ -8,9 +8,10 @@ use crate::command::allowance;
 use crate::command::labels::labels;
 use crate::command::meaning::Reader;
 use crate::command::sha256;
+use crate::command::terms::Terms;
 use crate::command::text::{self, counted, grouped};
 use crate::command::verdict::{Verdict, name_walk, told};
-use blotheath::{Allowance, DOUBT, FILE_LIMIT, NameWalk, Pattern, Place, Refusal, Tree};
+use blotheath::{DOUBT, FILE_LIMIT, NameWalk, Pattern, Place, Refusal, Tree};
 use std::collections::BTreeSet;
 use std::io::{self, Write};
 
@@ -18,7 +19,7 @@ use std::io::{self, Write};
 pub struct Page<'p> {
     pub name: &'p str,
     pub file: &'p [u8],
-    pub allowance: Allowance,
+    pub terms: &'p Terms,
     pub verdict: &'p Verdict<'p>,
     pub source: Option<&'p Source>,
 }
@@ -131,7 +132,7 @@ impl Page<'_> {
         match self.verdict {
             Verdict::Passes(_) => writeln!(
                 out,
-                "<p class=\"verdict passes\"><strong>Passes</strong> <span>It loads, and it meets none of the refusals 15 to 20 and 25.</span></p>"
+                "<p class=\"verdict passes\"><strong>Passes</strong> <span>It loads, and it meets none of the refusals 15 to 20, 25 and 32.</span></p>"
             )?,
             Verdict::Refused { refusal, .. } => writeln!(
                 out,
@@ -144,11 +145,7 @@ impl Page<'_> {
             self.place(out, place)?;
         }
         self.facts(out)?;
-        let told = format!(
-            "Examined under an allowance of {}.",
-            allowance::told(self.allowance)
-        );
-        writeln!(out, "<p class=\"note\">{}</p>", escape(&told))?;
+        self.terms(out)?;
         if let Verdict::Refused {
             excess: Some(excess),
             ..
@@ -164,6 +161,21 @@ impl Page<'_> {
             writeln!(out, "<p class=\"caution\">{}</p>", escape(&told))?;
         }
         writeln!(out, "</header>")
+    }
+
+    /// The terms that the file was examined on.
+    fn terms(&self, out: &mut dyn Write) -> io::Result<()> {
+        let Terms { allowance, school } = self.terms;
+        for told in [
+            format!(
+                "Examined under an allowance of {}.",
+                allowance::told(*allowance)
+            ),
+            format!("Permitted: {}.", school.told(usize::MAX)),
+        ] {
+            writeln!(out, "<p class=\"note\">{}</p>", escape(&told))?;
+        }
+        Ok(())
     }
 
     /// Where the refusal lies, with a link to it where the page shows it.
@@ -289,12 +301,13 @@ mod tests {
             place: Some(place),
             looks_like: None,
             excess: None,
+            forbidden: None,
             pattern: None,
         };
         let page = Page {
             name: "folder/a.mrb",
             file,
-            allowance: Allowance::DESKTOP,
+            terms: &Terms::default(),
             verdict: &verdict,
             source: None,
         };

@@ -14,11 +14,11 @@ const CLAIMS: [(&str, &str); 4] = [
     ),
     (
         "Examination",
-        "A file passes exactly where it meets none of the conditions 15 to 20 and 25 of the definition.",
+        "For every list of permitted opcodes, a file passes exactly where it meets none of the conditions 15 to 20, 25 and 32 of the definition.",
     ),
     (
         "Runs",
-        "No run of a file that passes, along any choices whatever, leaves the places where its instructions begin.",
+        "No run of a file that passes, along any choices whatever, leaves the places where its instructions begin, or meets an opcode that is not permitted.",
     ),
 ];
 
@@ -28,8 +28,8 @@ const TRUSTED: [&str; 4] = [
     "The logic and the compiler of the Rattle kit, and the call from this program into the proved archive.",
     "This program reads the file, asks the proved archive, and draws this page. It is tested, not proved. Names of opcodes, \
      operands that a prefix widens, words for arguments and parameters, labels of records, jumps, pictures, the place of a \
-     refusal, with how far each condition was looked at, how far a file is beyond its allowance, and what a file that is no pattern \
-     looks like, are its own.",
+     refusal, with how far each condition was looked at, how far a file is beyond its allowance, which opcodes a \
+     name stands for, and what a file that is no pattern looks like, are its own.",
     "Nothing proves that a source text shown here is the text that the pattern was made from.",
 ];
 
