@@ -226,12 +226,13 @@ pub extern "C" fn blotheath_load_records(
     loaded
 }
 
-// Examines a file of at most so many bytes and records over nine lent tables.
+// Examines a file of at most so many bytes and records, and of permitted opcodes alone, over nine lent tables.
 #[no_mangle]
 pub extern "C" fn blotheath_examine(
     file: &[u8],
     max_bytes: u32,
     max_records: u32,
+    permitted: &[u8],
     records: &mut [u32],
     handlers: &mut [u32],
     pool: &mut [u32],
@@ -246,7 +247,8 @@ pub extern "C" fn blotheath_examine(
         (now (filenames .exit)) (now (files .exit)) (now (lines .exit)))
         ≡ loadedIs (examine (now (file .entry)) (sizes
         (words (now (records .entry)) (now (handlers .entry)) (now (pool .entry)) (now (symbols .entry)) (now (strings .entry)) (now (names .entry))
-        (now (filenames .entry)) (now (files .entry)) (now (lines .entry)))) (allowance «max_bytes» «max_records»)) ⌝ }
+        (now (filenames .entry)) (now (files .entry)) (now (lines .entry)))) (allowance «max_bytes» «max_records»)
+        (now (permitted .entry))) ⌝ }
 {
     boundary::loaded(examine::examine(
         file,
@@ -263,15 +265,18 @@ pub extern "C" fn blotheath_examine(
             bytes: max_bytes,
             records: max_records,
         },
+        permitted,
     ))
 }
 
-// Follows the run of a file of at most so many bytes and records along choice bytes, over nine lent tables and a frame table.
+// Follows the run of a file of at most so many bytes and records, and of permitted opcodes alone, along choice bytes, over nine lent tables and a frame
+// table.
 #[no_mangle]
 pub extern "C" fn blotheath_follow(
     file: &[u8],
     max_bytes: u32,
     max_records: u32,
+    permitted: &[u8],
     records: &mut [u32],
     handlers: &mut [u32],
     pool: &mut [u32],
@@ -288,7 +293,8 @@ pub extern "C" fn blotheath_follow(
         (now (filenames .exit)) (now (files .exit)) (now (lines .exit))) (now (frames .exit))
         ≡ ranIs (follow (now (file .entry)) (sizes
         (words (now (records .entry)) (now (handlers .entry)) (now (pool .entry)) (now (symbols .entry)) (now (strings .entry)) (now (names .entry))
-        (now (filenames .entry)) (now (files .entry)) (now (lines .entry)))) (allowance «max_bytes» «max_records») (length (now (frames .entry))) (now (choices .entry))) ⌝ }
+        (now (filenames .entry)) (now (files .entry)) (now (lines .entry)))) (allowance «max_bytes» «max_records»)
+        (now (permitted .entry)) (length (now (frames .entry))) (now (choices .entry))) ⌝ }
 {
     boundary::followed(follow::follow(
         file,
@@ -307,5 +313,6 @@ pub extern "C" fn blotheath_follow(
             bytes: max_bytes,
             records: max_records,
         },
+        permitted,
     ))
 }

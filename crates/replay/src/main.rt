@@ -3,6 +3,7 @@ use boundary::BlotheathFollowed;
 use boundary::BlotheathLoaded;
 use format::DESKTOP_BYTES;
 use format::DESKTOP_RECORDS;
+use format::OPCODES;
 use format::RECORD_WIDTH;
 use libc::STDIN_FILENO;
 use libc::STDOUT_FILENO;
@@ -117,9 +118,12 @@ fn outcome_agrees(o: Outcome, all: &[u8], at: usize) -> bool {
         && five_agree(n[5], n[6], n[7], n[8], n[9], all, ahead(at, 20))
 }
 
-// The allowance of a call: two words that stand last, or the desktop's.
+// How many of the words that stand last are an allowance; a list of permitted opcodes may stand behind them, its length first.
+const ALLOWANCE_WORDS: usize = 2;
+
+// The allowance of a call: the first of the words that stand last, or the desktop's.
 fn allowance_of(all: &[u8], s: State) -> Allowance {
-    if s.rows == 2 {
+    if s.rows >= ALLOWANCE_WORDS {
         return Allowance {
             bytes: word(all, s.map),
             records: word(all, ahead(s.map, 4)),
@@ -147,6 +151,7 @@ fn call(
     frames: &mut [u32],
     choices: &[u8],
     allowance: Allowance,
+    permitted: &[u8],
 ) -> [u32; 11] {
     match kind {
         2 => of_loaded(boundary::loaded(rite::load(
@@ -174,6 +179,7 @@ fn call(
             files,
             lines,
             allowance,
+            permitted,
         ))),
         _ => of_followed(boundary::followed(follow::follow(
             file,
@@ -189,6 +195,7 @@ fn call(
             frames,
             choices,
             allowance,
+            permitted,
         ))),
     }
 }
@@ -208,6 +215,7 @@ fn call_summed(
     frames: &mut [u32],
     choices: &[u8],
     allowance: Allowance,
+    permitted: &[u8],
 ) -> Outcome {
     let numbers = call(
         kind,
@@ -224,6 +232,7 @@ fn call_summed(
         frames,
         choices,
         allowance,
+        permitted,
     );
     let of_nine = sum_of_all(
         records,
@@ -249,6 +258,7 @@ fn call_sized(
     frame_words: usize,
     choices: &[u8],
     allowance: Allowance,
+    permitted: &[u8],
 ) -> Outcome {
     let mut records = [3735928559u32; RECORD_WORDS];
     let mut handlers = [3735928559u32; 8192];
@@ -285,11 +295,20 @@ fn call_sized(
         &mut frames[0..j],
         choices,
         allowance,
+        permitted,
     )
 }
 
-// Whether a call on a file answers as stored; the nine sizes stand first, then the answer.
-fn call_at(kind: u32, all: &[u8], s: State, at: usize, frame_words: usize, choices: &[u8]) -> bool {
+// Whether a call on a file answers as stored, for a list of permitted opcodes; the nine sizes stand first, then the answer.
+fn call_listed(
+    kind: u32,
+    all: &[u8],
+    s: State,
+    at: usize,
+    frame_words: usize,
+    choices: &[u8],
+    permitted: &[u8],
+) -> bool {
     let end = least(ahead(s.file, s.bytes), all.len());
     let start = least(s.file, end);
     let o = call_sized(
@@ -300,8 +319,22 @@ fn call_at(kind: u32, all: &[u8], s: State, at: usize, frame_words: usize, choic
         frame_words,
         choices,
         allowance_of(all, s),
+        permitted,
     );
     outcome_agrees(o, all, ahead(at, 36))
+}
+
+// The same for the list behind the allowance, or for one that permits everything.
+fn call_at(kind: u32, all: &[u8], s: State, at: usize, frame_words: usize, choices: &[u8]) -> bool {
+    if s.rows <= ALLOWANCE_WORDS {
+        let everything = [1u8; OPCODES];
+        return call_listed(kind, all, s, at, frame_words, choices, &everything);
+    }
+    let list = ahead(s.map, 12);
+    let bytes = word(all, ahead(s.map, 8)) as usize;
+    let end = least(ahead(list, bytes), all.len());
+    let start = least(list, end);
+    call_listed(kind, all, s, at, frame_words, choices, &all[start..end])
 }
 
 // A load or an examination.

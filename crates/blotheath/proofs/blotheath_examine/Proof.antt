@@ -9,10 +9,10 @@ use Rattle.blotheath.proofs.blotheath_examine.Tie as tie
 
 returns : tie.Need-returns
 returns c =
-    let c19 = c .before .before .before .before .before .before .before .before .before .before .before .before .before .before .before .before .before .before .before in
-    let last = c19 .examine .last in
+    let examined = c .before .before .before .before .before .before .before .before .before .before .before .before .before .before .before .before .before .before .before in
+    let last = examined .examine .last in
     ap (λ r. exported r (words (last .1 .0) (last .1 .1 .0) (last .1 .1 .1 .0) (last .1 .1 .1 .1 .0) (last .1 .1 .1 .1 .1 .0) (last .1 .1 .1 .1 .1 .1 .0)
-    (last .1 .1 .1 .1 .1 .1 .1 .0) (last .1 .1 .1 .1 .1 .1 .1 .1 .0) (last .1 .1 .1 .1 .1 .1 .1 .1 .1 .0))) (c .loaded .ensures) ∙ ap loadedIs (c19 .examine .ensures)
+    (last .1 .1 .1 .1 .1 .1 .1 .0) (last .1 .1 .1 .1 .1 .1 .1 .1 .0) (last .1 .1 .1 .1 .1 .1 .1 .1 .1 .0))) (c .loaded .ensures) ∙ ap loadedIs (examined .examine .ensures)
 
 pub blotheath-examine-spec : {M : Type 1} → statement M
 blotheath-examine-spec =

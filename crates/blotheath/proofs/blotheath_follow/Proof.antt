@@ -9,12 +9,12 @@ use Rattle.blotheath.proofs.blotheath_follow.Tie as tie
 
 returns : tie.Need-returns
 returns c =
-    let c20 = c .before .before .before .before .before .before .before .before .before .before .before .before .before .before .before .before .before .before .before .before in
-    let c21 = c20 .before in
-    let last = c21 .follow .last in
+    let mid1 = c .before .before .before .before .before .before .before .before .before .before .before .before .before .before .before .before .before .before .before .before in
+    let ran-to = mid1 .before in
+    let last = ran-to .follow .last in
     ap (λ r. ran r (words (last .1 .0) (last .1 .1 .0) (last .1 .1 .1 .0) (last .1 .1 .1 .1 .0) (last .1 .1 .1 .1 .1 .0) (last .1 .1 .1 .1 .1 .1 .0)
     (last .1 .1 .1 .1 .1 .1 .1 .0) (last .1 .1 .1 .1 .1 .1 .1 .1 .0) (last .1 .1 .1 .1 .1 .1 .1 .1 .1 .0)) (last .1 .1 .1 .1 .1 .1 .1 .1 .1 .1 .0))
-    (c .followed .ensures) ∙ ap ranIs (c21 .follow .ensures)
+    (c .followed .ensures) ∙ ap ranIs (ran-to .follow .ensures)
 
 pub blotheath-follow-spec : {M : Type 1} → statement M
 blotheath-follow-spec =
