@@ -9,11 +9,12 @@ use Rattle.exam.proofs.examine_record.Tie as tie
 examine-part-requires : tie.Need-examine-part-requires
 examine-part-requires c κs =
     let triple = c .before .before .before .before .before .before .before .before .before .before in
-    let start = triple .before .before .before .before .before .before .before .before .before .before .before in
-    (
+    let start = triple .before .before .before .before .before .before .before .before .before .before .before in (
       search needs,
-      (record { seven = refl; plain-limit = refl; pair-limit = triple .before .less .ensures; triple-limit = triple .less2 .ensures },
-      (search needs, (search needs, start .pre .1 .1))),
+      (
+        record { seven = refl; plain-limit = refl; pair-limit = triple .before .less .ensures; triple-limit = triple .less2 .ensures },
+        (search needs, (search needs, start .pre .1 .1)),
+      ),
     )
 
 returns : tie.Need-returns
