@@ -146,6 +146,52 @@ pub fn files() -> Vec<(&'static str, Vec<u8>)> {
     ]
 }
 
+/// A file whose last record alone has RETURN, with every opcode that its records hold.
+pub struct EndingApart {
+    pub name: &'static str,
+    pub file: Vec<u8>,
+    pub held: Vec<u8>,
+}
+
+/// Files that share code, of the kinds that are the worst for examination.
+pub fn ending_apart() -> Vec<EndingApart> {
+    let jump = JMP.behind(EXT1, 0);
+    [
+        ("1,024 records that share code: NOP", &[NOP][..]),
+        (
+            "the same: NOP, or one of three prefixes and NOP, in random order",
+            &[NOP, NOP, NOP, EXT1_NOP, EXT2_NOP, EXT3_NOP],
+        ),
+        (
+            "the same: NOP and jumps, two to one, half of them behind EXT1, in random order",
+            &[NOP, NOP, JMP, EXT1_NOP, EXT1_NOP, jump],
+        ),
+    ]
+    .map(|(name, kinds)| EndingApart {
+        name,
+        file: shared_before(kinds),
+        held: held_by(kinds),
+    })
+    .into()
+}
+
+/// The opcodes of a chain's code of these kinds, of its headers and of a last record that ends apart.
+fn held_by(kinds: &[Kind]) -> Vec<u8> {
+    let mut held = vec![
+        NOP.opcode,
+        LOADNIL.opcode,
+        LOADI,
+        LOADI32.opcode,
+        STOP,
+        RETURN,
+    ];
+    for kind in kinds {
+        held.extend(kind.prefix);
+        held.push(kind.opcode);
+    }
+    held
+}
+
 fn irep(content: &[u8]) -> Vec<u8> {
     section(b"IREP", &[&[0; 4], content].concat())
 }
@@ -194,6 +240,10 @@ const fn jump(opcode: u8, size: usize) -> Kind {
         ..kind(opcode, size)
     }
 }
+
+const LOADI: u8 = 3;
+pub const RETURN: u8 = 61;
+const STOP: u8 = 118;
 
 const NOP: Kind = kind(0, 1);
 const KEYEND: Kind = kind(59, 1);
@@ -378,7 +428,7 @@ fn code(kinds: &[Kind], order: Order, most: usize) -> Vec<u8> {
         };
         code[end - 2..end].copy_from_slice(&operand.to_be_bytes());
     }
-    code.push(118);
+    code.push(STOP);
     code
 }
 
@@ -395,7 +445,7 @@ fn code_of_forms(forms: &[Form], prefixes: &[Option<u8>], most: usize) -> Vec<u8
         }
         code.extend(instruction);
     }
-    code.push(118);
+    code.push(STOP);
     code
 }
 
@@ -420,7 +470,10 @@ const ONE_SYMBOL: [u8; 5] = [0, 1, 0, 0, 0];
 const OWN_LENGTH: usize = 3;
 
 /// What follows the NOP that this code begins with: NOP and STOP, no constants, no symbols.
-const OWN: [u8; 6] = [0, 118, 0, 0, 0, 0];
+const OWN: [u8; 6] = [0, STOP, 0, 0, 0, 0];
+
+/// The same with RETURN, which the records before read as an operand of LOADI.
+const OWN_RETURN: [u8; 6] = [RETURN, 0, 0, 0, 0, 0];
 
 /// Records that share code of these kinds in random order, in which operands name registers alone.
 fn shared_code(kinds: &[Kind]) -> Vec<u8> {
@@ -438,6 +491,12 @@ fn shared_in_turn(kinds: &[Kind]) -> Vec<u8> {
 fn shared_definitions(kinds: &[Kind]) -> Vec<u8> {
     let code = |most| code(kinds, Order::Random, most);
     chain(code, FEW_REGISTERS, &ONE_SYMBOL, &OWN)
+}
+
+/// Records that share code of these kinds in random order, before a last one that has RETURN.
+fn shared_before(kinds: &[Kind]) -> Vec<u8> {
+    let code = |most| code(kinds, Order::Random, most);
+    chain(code, FEW_REGISTERS, &NONE, &OWN_RETURN)
 }
 
 /// Records that share code of these forms, which touch registers by their operands.
@@ -515,7 +574,7 @@ fn children() -> Vec<u8> {
     let mut content = Vec::new();
     for _ in 0..RECORDS {
         content.extend(head(21, 1, 1, 65_535, 0, 1));
-        content.extend([118, 0, 0, 0, 0]);
+        content.extend([STOP, 0, 0, 0, 0]);
     }
     let names = section(b"LVAR", &[0, 0, 0, 0]);
     let mut lines = vec![0, 0];

@@ -9,8 +9,8 @@ mod ladder;
 mod parts;
 mod timing;
 
-use blotheath::Allowance;
 use blotheath::tables::Words;
+use blotheath::{Allowance, Pattern, Permitted, Refusal};
 use original::rite::rite;
 use std::path::{Path, PathBuf};
 use std::time::Duration;
@@ -27,6 +27,7 @@ fn main() {
     real_files(rounds);
     ladder_of_sizes(rounds);
     hostile_files();
+    hostile_files_for_lists();
 }
 
 /// The files of the corpus that pass and that the original loads too, or the sample where there is no corpus.
@@ -81,6 +82,9 @@ fn ladder_of_sizes(rounds: usize) {
 /// The allowance of every call.
 const ALLOWANCE: Allowance = Allowance::DESKTOP;
 
+/// The permitted opcodes of every call but those for other lists.
+const EVERYTHING: Permitted = Permitted::everything();
+
 /// The choices that follow is timed with.
 const CHOICES: [u8; 16] = [0, 0, 2, 0, 0, 0, 1, 0, 0, 2, 0, 0, 0, 0, 4, 0];
 
@@ -123,7 +127,8 @@ fn table(files: &[Vec<u8>], rounds: usize) {
     };
     let mut examine = || {
         for (file, words) in files.iter().zip(&mut examined) {
-            timing::keep(blotheath::ffi::examine(file, ALLOWANCE, words));
+            let permitted = EVERYTHING.as_bytes();
+            timing::keep(blotheath::ffi::examine(file, ALLOWANCE, permitted, words));
         }
     };
     let mut follow = || {
@@ -131,6 +136,7 @@ fn table(files: &[Vec<u8>], rounds: usize) {
             timing::keep(blotheath::ffi::follow(
                 file,
                 ALLOWANCE,
+                EVERYTHING.as_bytes(),
                 words,
                 &mut frames,
                 &CHOICES,
@@ -158,6 +164,18 @@ fn micros(time: Duration) -> f64 {
     time.as_secs_f64() * 1e6
 }
 
+/// The answer of an examination in words.
+fn answer_of(examined: Result<Pattern, Refusal>) -> String {
+    match examined {
+        Ok(_) => "passes".to_owned(),
+        Err(refusal) => refusal.number().to_string(),
+    }
+}
+
+fn shown(time: Duration) -> String {
+    format!("{:.1} ms", time.as_secs_f64() * 1e3)
+}
+
 /// Times the worst files, with the tables that the host lends for them.
 fn hostile_files() {
     println!("## Hostile files\n");
@@ -178,13 +196,9 @@ fn hostile_files() {
             ("follow", &mut follow),
         ];
         let times = medians(&mut subjects, 5);
-        let answer = match blotheath::examine(&file) {
-            Ok(_) => "passes".to_owned(),
-            Err(refusal) => refusal.number().to_string(),
-        };
+        let answer = answer_of(blotheath::examine(&file));
         let mut load_original = || timing::keep(rite::load(&file).is_ok());
         let original = timing::once(&mut load_original);
-        let shown = |time: Duration| format!("{:.1} ms", time.as_secs_f64() * 1e3);
         println!(
             "| {name} | {} | {answer} | {} | {} | {} | {} |",
             file.len(),
@@ -204,4 +218,49 @@ fn hostile_files() {
     }
     println!("\nWalks over the local names that go far beyond the records:\n");
     far.iter().for_each(|walk| println!("- {walk}"));
+}
+
+/// Times files that share code for lists of permitted opcodes.
+fn hostile_files_for_lists() {
+    println!("\n## Hostile files for lists of permitted opcodes\n");
+    println!(
+        "Of these files the last record alone has RETURN, as its last instruction; medians of five.\n"
+    );
+    println!("| file | bytes | permitted | answer | examine | follow |\n|---|---|---|---|---|---|");
+    for hostile in hostile::ending_apart() {
+        let file = &hostile.file;
+        for (list, permitted) in lists_for(&hostile) {
+            let examined = || blotheath::examine_within(file, ALLOWANCE, &permitted);
+            let mut examine = || timing::keep(examined().is_ok());
+            let mut follow = || {
+                let followed = blotheath::follow_within(file, ALLOWANCE, &permitted, &CHOICES);
+                timing::keep(followed.is_ok());
+            };
+            let mut subjects: Vec<Subject> =
+                vec![("examine", &mut examine), ("follow", &mut follow)];
+            let times = medians(&mut subjects, 5);
+            println!(
+                "| {} | {} | {list} | {} | {} | {} |",
+                hostile.name,
+                file.len(),
+                answer_of(examined()),
+                shown(times[0]),
+                shown(times[1])
+            );
+        }
+    }
+}
+
+/// The lists that a file is timed with.
+fn lists_for(hostile: &hostile::EndingApart) -> [(&'static str, Permitted); 4] {
+    let mut held = Permitted::nothing();
+    hostile.held.iter().for_each(|opcode| held.permit(*opcode));
+    let mut all_but_last = EVERYTHING;
+    all_but_last.forbid(hostile::RETURN);
+    [
+        ("everything", EVERYTHING),
+        ("what the file holds", held),
+        ("all but RETURN", all_but_last),
+        ("nothing", Permitted::nothing()),
+    ]
 }

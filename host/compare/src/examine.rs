@@ -19,6 +19,9 @@ use std::collections::{BTreeMap, BTreeSet};
 /// The refusals of a file that loads, with everything permitted: "none of 15 to 20, 25 and 32".
 pub const NOT_PASSING: [Refusal; 7] = [15, 16, 17, 18, 19, 20, 25];
 
+/// For how many lists of permitted opcodes each real file is examined.
+const REAL_LISTS: usize = 20;
+
 /// `compare examine`
 pub fn compare(args: &Args) -> Result<(), Stop> {
     args.only(&["--files", "--seed", "--first"])
@@ -34,11 +37,16 @@ pub fn compare(args: &Args) -> Result<(), Stop> {
     let mut listed = for_lists::Counts::default();
     for (i, (name, file)) in corpus.iter().enumerate() {
         let mut rng = Rng::new(seed, u64::MAX - i as u64);
-        let [fitting, ..] =
-            one(&subjects, file, &mut rng).map_err(|why| difference(name, file, &why))?;
+        let mut beside = rng.beside();
+        let wrong = |why: String| difference(name, file, &why);
+        let [fitting, ..] = one(&subjects, file, &mut rng).map_err(wrong)?;
+        for _ in 0..REAL_LISTS {
+            let counts = &mut for_lists::Counts::default();
+            for_lists::one(&subjects, file, &mut beside, counts).map_err(wrong)?;
+        }
         if fitting != 0 {
             let why = format!("the answer is {fitting}, the corpus says that it passes");
-            return Err(difference(name, file, &why));
+            return Err(wrong(why));
         }
     }
     let chosen = chosen_files(&subjects, seed)?;

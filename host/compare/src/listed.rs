@@ -129,7 +129,7 @@ fn just(opcodes: &[u8]) -> Vec<u8> {
 pub fn groups() -> Vec<Group> {
     vec![
         Group {
-            name: "permitted opcodes, loaded, examined and followed",
+            name: "permitted opcodes, loaded and examined",
             files: [lists(), classes(), halves()]
                 .into_iter()
                 .flatten()
@@ -174,14 +174,17 @@ fn lists() -> Vec<Listed> {
         .examine(&vec![1; up_to_return - 1], FORBIDDEN)
         .examine(&[], FORBIDDEN)
         // "one past 119 is not read"
-        .examine(&past(1, 0), 0)
         .examine(&past(0, 1), FORBIDDEN)
         // "With everything permitted the verdicts are the earlier ones", and File A has no prefix and no STOP.
         .examine(&[255; LIST], 0)
         .examine(&[1; EXT1 as usize], 0)
         // A load takes no list.
         .load(&[], 0);
-    vec![listed]
+    // Everything permitted has the last opcode.
+    let last = Listed::of(alone(&[NOP, STOP]))
+        .examine(&[1; STOP as usize], FORBIDDEN)
+        .examine(&past(1, 0), 0);
+    vec![listed, last]
 }
 
 /// "Some schools forbid patterns that define classes."
@@ -287,7 +290,7 @@ const OUT: [u8; 4] = [JMP, 0, 9, CALL];
 const NO_OPCODE: [u8; 1] = [UNKNOWN];
 const STRAY: [u8; 2] = [CALL, EXT1];
 
-/// Code that meets nothing, and the same with NOP.
+/// Code that meets nothing, without NOP and with it.
 const GOOD: [u8; 4] = [MOVE, 0, 1, CALL];
 const WITH_NOP: [u8; 2] = [NOP, CALL];
 
@@ -367,9 +370,8 @@ fn prefixes() -> Vec<Listed> {
         examined(behind(EXT1), &no_prefix, FORBIDDEN),
         examined(alone(&[NOP, CALL]), &no_prefix, 0),
         examined(alone(&[LOADI, 0, EXT1, CALL]), &no_prefix, 0),
-        // Everything permitted has the prefixes and STOP.
+        // Everything permitted has the prefixes.
         examined(behind(EXT3), &[1; EXT1 as usize], FORBIDDEN),
-        examined(alone(&[NOP, STOP]), &[1; STOP as usize], FORBIDDEN),
     ]);
     files
 }
@@ -428,4 +430,63 @@ pub fn everywhere() -> Vec<Listed> {
             listed
         })
         .collect()
+}
+
+#[cfg(test)]
+mod tests {
+    use super::*;
+    use crate::allowance::read_all;
+    use model::{Loaded, Sizes};
+
+    #[test]
+    fn opcodes_have_their_names() {
+        for (opcode, name) in [
+            (NOP, "NOP"),
+            (MOVE, "MOVE"),
+            (LOADI, "LOADI"),
+            (LOADNIL, "LOADNIL"),
+            (JMP, "JMP"),
+            (CALL, "CALL"),
+            (RETURN, "RETURN"),
+            (BLOCK, "BLOCK"),
+            (METHOD, "METHOD"),
+            (OCLASS, "OCLASS"),
+            (CLASS, "CLASS"),
+            (EXEC, "EXEC"),
+            (EXT1, "EXT1"),
+            (EXT2, "EXT2"),
+            (EXT3, "EXT3"),
+        ] {
+            assert_eq!(OPCODES[usize::from(opcode)].name, name);
+        }
+        assert_eq!(usize::from(UNKNOWN), OPCODES.len());
+    }
+
+    /// What a call answers, over tables that fit.
+    fn answer(file: &[u8], call: &Call) -> Loaded {
+        let sizes = Sizes::of_rows(read_all(file).rows.used());
+        let (allowance, list) = (call.allowance, &call.list);
+        match &call.asked {
+            Asked::Load => model::load(file, allowance, &sizes),
+            Asked::Examination => model::examine(file, allowance, list, &sizes),
+            Asked::Run(words, choices, _) => {
+                model::follow(file, allowance, list, &sizes, *words, choices).loaded
+            }
+        }
+    }
+
+    #[test]
+    fn files_load_and_calls_have_their_answers() {
+        let groups = groups().into_iter().flat_map(|group| group.files);
+        for (number, listed) in groups.chain(everywhere()).enumerate() {
+            assert_eq!(read_all(&listed.file).end, Ok(()), "{number}");
+            for (at, call) in listed.calls.iter().enumerate() {
+                assert_eq!(
+                    answer(&listed.file, call).refusal,
+                    call.refusal,
+                    "{number} {at}"
+                );
+            }
+        }
+    }
 }

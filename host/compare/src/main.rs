@@ -17,6 +17,8 @@ mod lines;
 mod listed;
 mod load;
 mod lookups;
+#[cfg(test)]
+mod mistaken_lists;
 mod newer;
 mod oracle;
 mod parents;

@@ -29,12 +29,12 @@ pub struct Held {
 
 impl Held {
     /// "A prefix needs its own yes."
-    fn is_permitted(&self, list: &[u8]) -> bool {
+    pub fn is_permitted(&self, list: &[u8]) -> bool {
         self.bytes().iter().all(|byte| says_yes(list, *byte))
     }
 
     /// The bytes that need a yes.
-    fn bytes(&self) -> Vec<u8> {
+    pub fn bytes(&self) -> Vec<u8> {
         self.prefix.into_iter().chain([self.opcode]).collect()
     }
 
@@ -46,7 +46,7 @@ impl Held {
 
 /// The instructions of a record by the comparison's own reading.
 pub struct Content<'a> {
-    code: &'a [u8],
+    pub code: &'a [u8],
     pub held: Vec<Held>,
     /// Whether the reading comes to the end, and so meets neither 16 nor 25.
     pub is_whole: bool,
@@ -69,13 +69,13 @@ impl<'a> Content<'a> {
     }
 
     /// The instructions for which a list does not say yes.
-    fn forbidden(&self, list: &[u8]) -> Vec<&Held> {
+    pub fn forbidden(&self, list: &[u8]) -> Vec<&Held> {
         let held = self.held.iter();
         held.filter(|held| !held.is_permitted(list)).collect()
     }
 
     /// Whether an operand has a byte that is no permitted opcode.
-    fn has_other_operands(&self, list: &[u8]) -> bool {
+    pub fn has_other_operands(&self, list: &[u8]) -> bool {
         let mut operands = self
             .held
             .iter()
@@ -300,7 +300,7 @@ pub enum Sort {
     Everything,
     /// All but one that the file needs.
     AllButOne,
-    /// All but one that the file does not need.
+    /// All but at most one, which the file does not need.
     AllButOther,
     /// Just what the file needs.
     Needed,
@@ -423,8 +423,106 @@ pub fn further(list: &[u8], needed: &[u8], rng: &mut Rng) -> Vec<u8> {
     written(&says, rng)
 }
 
-/// Whether a list permits what another does.
 #[cfg(test)]
-fn is_further(list: &[u8], than: &[u8]) -> bool {
-    (0..=u8::MAX).all(|byte| says_yes(list, byte) || !says_yes(than, byte))
+mod tests {
+    use super::*;
+    use crate::allowance::read_all;
+    use crate::generate::Generator;
+
+    /// What a file needs in most cases: opcodes, a prefix and STOP.
+    const NEEDED: [u8; 4] = [0, 38, PREFIXES[1], STOP];
+
+    /// Many lists of a sort.
+    fn lists(sort: Sort) -> impl Iterator<Item = Vec<u8>> {
+        (0..2_000).map(move |index| of_sort(sort, &NEEDED, &mut Rng::new(1, index)))
+    }
+
+    #[test]
+    fn sorts_say_yes_for_what_they_name() {
+        let yeses = |list: &[u8]| NEEDED.map(|byte| says_yes(list, byte));
+        let number = |list: &[u8]| (0..=u8::MAX).filter(|byte| says_yes(list, *byte)).count();
+        for list in lists(Sort::Everything) {
+            assert_eq!(number(&list), LIST);
+        }
+        for list in lists(Sort::Needed) {
+            assert_eq!((yeses(&list), number(&list)), ([true; 4], NEEDED.len()));
+        }
+        for list in lists(Sort::AllButOther) {
+            assert_eq!(yeses(&list), [true; 4]);
+        }
+        for (sort, length) in [(Sort::AllButOne, LIST), (Sort::NeededButOne, NEEDED.len())] {
+            for list in lists(sort) {
+                assert!(yeses(&list).contains(&false));
+                assert_eq!(number(&list), length - 1);
+            }
+        }
+    }
+
+    /// Lists end before, at and behind what is needed, before and behind 119, and say yes by any number.
+    #[test]
+    fn lists_have_every_form() {
+        let cut: BTreeSet<usize> = lists(Sort::Cut).map(|list| list.len()).collect();
+        for byte in NEEDED.map(usize::from) {
+            let around = [byte.saturating_sub(1), byte, byte + 1];
+            assert!(around.iter().all(|length| cut.contains(length)), "{byte}");
+        }
+        let all: Vec<Vec<u8>> = lists(Sort::Needed).chain(lists(Sort::Any)).collect();
+        let yeses: BTreeSet<u8> = all.iter().flatten().copied().collect();
+        assert_eq!(yeses.len(), 256);
+        let longer = all.iter().filter(|list| list.len() > LIST);
+        let behind: BTreeSet<u8> = longer.map(|list| list[LIST]).collect();
+        assert!(behind.contains(&0) && behind.contains(&1));
+        assert!(all.iter().any(|list| list.len() < LIST));
+    }
+
+    #[test]
+    fn further_lists_permit_no_less() {
+        for index in 0..2_000 {
+            let rng = &mut Rng::new(1, index);
+            let (_, list) = any(&NEEDED, rng);
+            let further = further(&list, &NEEDED, rng);
+            assert!((0..=u8::MAX).all(|byte| says_yes(&further, byte) || !says_yes(&list, byte)));
+        }
+    }
+
+    /// What is seen in generated files, with their number where everything is permitted.
+    fn seen_in(files: u64) -> BTreeSet<(Seen, Refusal)> {
+        let generator = Generator { corpus: Vec::new() };
+        let mut all = BTreeSet::new();
+        for index in 0..files {
+            let file = generator.examinable(1, index);
+            let reading = read_all(&file);
+            if reading.end.is_err() {
+                continue;
+            }
+            let (_, list) = any(&needed(&file, &reading), &mut Rng::new(!1, index));
+            let everything = Met::of(&file, &reading.rows, &EVERYTHING).number;
+            let seen = Seen::all(&file, &reading.rows, &list);
+            all.extend(seen.into_iter().map(|seen| (seen, everything)));
+        }
+        all
+    }
+
+    #[test]
+    fn generated_files_meet_32_beside_every_other_number() {
+        let seen = seen_in(12_000);
+        let by = |what: Seen, numbers: &[Refusal]| {
+            for number in numbers {
+                assert!(seen.contains(&(what, *number)), "{what:?} {number}");
+            }
+        };
+        by(Seen::Passes, &[0]);
+        by(Seen::PassesWithOperands, &[0]);
+        for what in [
+            Seen::Forbidden,
+            Seen::Prefix,
+            Seen::BehindPrefix,
+            Seen::Unreached,
+        ] {
+            by(what, &[0, 16, 17, 18, 19, 20]);
+        }
+        by(Seen::AfterOperands, &[17, 18]);
+        by(Seen::BeforeReading, &[16, 25]);
+        by(Seen::BeforeRecord, &[15, 16, 17, 18, 19, 20, 25]);
+    }
 }

@@ -222,7 +222,6 @@ impl Store {
         Ok(())
     }
 
-    /// A load, an examination or the head of a follow.
     /// A load, an examination or the first numbers of a follow; an answer has eleven.
     fn call(&mut self, kind: u32, sizes: &Sizes, answer: [u32; 11], sum: u32) {
         let words = sizes.0.map(|words| words as u32);
@@ -497,26 +496,8 @@ fn allowed_samples(store: &mut Store) -> Result<(), String> {
 fn calls_under_allowances(store: &mut Store, allowed: &Allowed) -> Result<(), String> {
     for call in &allowed.calls {
         store.state(Terms::with_everything(call.allowance));
-        let sizes = call.sizes();
-        let kind = match &call.asked {
-            Asked::Load => 2,
-            Asked::Examination => 7,
-            Asked::Run(words, choices, right) => {
-                let right = Follow {
-                    refusal: call.refusal,
-                    numbers: if call.refusal == 0 { *right } else { [0; 6] },
-                };
-                sample_run(store, &sizes, *words, &allowed.file, choices, right)?;
-                continue;
-            }
-        };
-        let loads = u32::from(call.refusal == 0);
-        let right = Answer {
-            refusal: call.refusal,
-            rows: of_records(loads * allowed.records),
-            visits: 0,
-        };
-        sample_again(store, kind, &sizes, &allowed.file, right)?;
+        let right = (call.refusal, of_records(allowed.records));
+        sample_call(store, &call.asked, &call.sizes(), &allowed.file, right)?;
     }
     store.state(Terms::default());
     Ok(())
@@ -537,37 +518,45 @@ fn listed_samples(store: &mut Store) -> Result<(), String> {
 
 /// A file, and calls on it for lists over tables that fit.
 fn calls_for_lists(store: &mut Store, listed: &Listed) -> Result<(), String> {
-    let file = &listed.file;
-    let used = read_all(file).rows.used();
-    let sizes = Sizes::of_rows(used);
-    store.bytes(1, file);
+    let used = read_all(&listed.file).rows.used();
+    store.bytes(1, &listed.file);
     for call in &listed.calls {
         store.state(Terms {
             allowance: call.allowance,
             permitted: call.list.clone(),
         });
-        let is_refused = call.refusal != 0;
-        let kind = match &call.asked {
-            Asked::Load => 2,
-            Asked::Examination => 7,
-            Asked::Run(words, choices, right) => {
-                let right = Follow {
-                    refusal: call.refusal,
-                    numbers: if is_refused { [0; 6] } else { *right },
-                };
-                sample_run(store, &sizes, *words, file, choices, right)?;
-                continue;
-            }
-        };
-        let rows = if is_refused { [0; 9] } else { used };
-        let right = Answer {
-            refusal: call.refusal,
-            rows: rows.map(|rows| rows as u32),
-            visits: 0,
-        };
-        sample_again(store, kind, &sizes, file, right)?;
+        let right = (call.refusal, used.map(|rows| rows as u32));
+        let sizes = Sizes::of_rows(used);
+        sample_call(store, &call.asked, &sizes, &listed.file, right)?;
     }
     Ok(())
+}
+
+/// A call on the file that stands last, without LVAR: refused, or with these rows.
+fn sample_call(
+    store: &mut Store,
+    asked: &Asked,
+    sizes: &Sizes,
+    file: &[u8],
+    (refusal, used): (Refusal, [u32; 9]),
+) -> Result<(), String> {
+    let is_refused = refusal != 0;
+    let right = Answer {
+        refusal,
+        rows: if is_refused { [0; 9] } else { used },
+        visits: 0,
+    };
+    match asked {
+        Asked::Load => sample_again(store, 2, sizes, file, right),
+        Asked::Examination => sample_again(store, 7, sizes, file, right),
+        Asked::Run(words, choices, numbers) => {
+            let right = Follow {
+                refusal,
+                numbers: if is_refused { [0; 6] } else { *numbers },
+            };
+            sample_run(store, sizes, *words, file, choices, right)
+        }
+    }
 }
 
 /// A file that has nothing but records and names, loaded and examined over so many rows of records.
@@ -1372,6 +1361,79 @@ mod tests {
             changed[calls[call] - before + 3] = other;
             assert!(replay_items(&Model, &changed).is_err(), "{call} {before}");
         }
+    }
+
+    #[test]
+    fn words_state_terms() {
+        for length in 0..=260usize {
+            let terms = Terms {
+                allowance: Allowance::PREVIEW,
+                permitted: (1..=length).map(|byte| byte as u8).collect(),
+            };
+            let words = terms.words();
+            assert_eq!(words.len(), 3 + length.div_ceil(4));
+            assert_eq!(words[2], length as u32);
+            assert_eq!(Terms::of(&words), Ok(terms));
+            if length > 0 {
+                assert!(Terms::of(&words[..words.len() - 1]).is_err());
+            }
+        }
+        for allowance in [Allowance::DESKTOP, Allowance::PREVIEW] {
+            let terms = Terms::with_everything(allowance);
+            assert_eq!(Terms::of(&terms.words()), Ok(terms));
+        }
+        assert_eq!(Terms::default().words(), []);
+        assert_eq!(Terms::with_everything(Allowance::PREVIEW).words().len(), 2);
+    }
+
+    #[test]
+    fn a_replay_is_for_the_list_that_stands_last() {
+        let file = file_a();
+        let mut needed = [0; 62];
+        [needed[17], needed[61]] = [1, 2];
+        let mut store = Store::default();
+        store.bytes(1, &file);
+        let mut calls = Vec::new();
+        for (permitted, refusal) in [
+            (&needed[..], 0),
+            (&[], 32),
+            (&[1; 61], 32),
+            (&[1; 62], 0),
+            (&EVERYTHING, 0),
+        ] {
+            store.state(Terms {
+                allowance: Allowance::DESKTOP,
+                permitted: permitted.to_vec(),
+            });
+            calls.push(store.bytes.len());
+            let right = Answer {
+                refusal,
+                rows: of_records(u32::from(refusal == 0)),
+                visits: 0,
+            };
+            sample_again(&mut store, 7, &ONE_ROW, &file, right).unwrap();
+        }
+        store.bytes(6, b"all");
+        store.item(0, []);
+        let bytes = store.bytes;
+        let groups = Ok(vec![("all".to_owned(), 5)]);
+        assert_eq!(replay_items(&Model, &bytes), groups);
+        // The list's bytes stand before the call, two bytes of zeros behind them.
+        let list = calls[0] - 64;
+        for (place, other) in [
+            (list + 17, 0),
+            (list + 61, 0),
+            (list - 1, 61),
+            (list - 8 + 2, 0),
+        ] {
+            let mut changed = bytes.clone();
+            changed[place] = other;
+            assert!(replay_items(&Model, &changed).is_err(), "{place}");
+        }
+        let mut same = bytes.clone();
+        same[list + 17] = 255;
+        same[list + 62] = 1;
+        assert_eq!(replay_items(&Model, &same), groups);
     }
 
     #[test]
