@@ -101,25 +101,13 @@ const ALLOWANCE: &[&str] = &["--preview", "--max-bytes", "--max-records"];
 const SCHOOL: &[&str] = &["--permit", "--forbid", "--school"];
 
 /// The options that each command has, group by group.
+#[rustfmt::skip]
 const OPTIONS: [(&str, &[&[&str]]); 6] = [
     ("examine", &[&["--json"], ALLOWANCE, SCHOOL]),
     ("load", &[&["--json", "--all"], ALLOWANCE]),
-    (
-        "steps",
-        &[&["--json", "--all", "--source"], ALLOWANCE, SCHOOL],
-    ),
-    (
-        "follow",
-        &[&["--json", "--each", "--source"], ALLOWANCE, SCHOOL],
-    ),
-    (
-        "report",
-        &[
-            &["-o", "--output", "--source", "--force"],
-            ALLOWANCE,
-            SCHOOL,
-        ],
-    ),
+    ("steps", &[&["--json", "--all", "--source"], ALLOWANCE, SCHOOL]),
+    ("follow", &[&["--json", "--each", "--source"], ALLOWANCE, SCHOOL]),
+    ("report", &[&["-o", "--output", "--source", "--force"], ALLOWANCE, SCHOOL]),
     ("opcodes", &[&["--json"]]),
 ];
 

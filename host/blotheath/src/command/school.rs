@@ -42,7 +42,7 @@ struct Order {
 }
 
 impl School {
-    /// Takes the orders of options and files in turn: the first is about every opcode where it forbids, about none where it permits.
+    /// Takes the orders of options and files in turn, from everything on where the first forbids, from nothing where it permits.
     pub fn of(rules: &[Rule]) -> Result<School, String> {
         let mut orders = Vec::new();
         let mut files = Vec::new();
