@@ -48,7 +48,9 @@ fn with_prefixed(all: u8, code: &[u8], i: usize, permitted: &[u8]) -> u8
     requires { ⌜ (all ≤ 1) × (i + 1 < length (now code)) × (prefix (byte (now code) i) ≡ true) ⌝ }
     ensures { λ r. ⌜ r ≡ said (ltb 0 all && permittedAt (now (permitted .entry)) (now (code .entry)) i) ⌝ }
 {
-    let pair = both(yes(permitted, code[i]), yes(permitted, code[i + 1]));
+    let prefix = yes(permitted, code[i]);
+    let opcode = yes(permitted, code[i + 1]);
+    let pair = both(prefix, opcode);
     both(all, pair)
 }
 

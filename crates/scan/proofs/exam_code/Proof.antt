@@ -20,7 +20,7 @@ abbrev μ-loop : tie.MeasureT-loop
 μ-loop code flags limits permitted a i₀ i = length code - i
 
 returns : tie.Need-returns Inv-loop μ-loop
-returns c = coded-marks (c .before .before .before .exam-16 .ensures) (c .if1 .taken)
+returns c = coded-marks (c .before .before .before .exam-16 .ensures) (λ z. omega (arith, z, c .if1 .taken))
 
 loop-holds : tie.Need-loop-holds Inv-loop μ-loop
 loop-holds c = going-start

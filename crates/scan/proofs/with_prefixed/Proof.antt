@@ -44,7 +44,9 @@ both-requires c κs =
     let a = start .args in
     let q = a .permitted .now in
     let code = a .code .now in
-    (omega (arith, yes .yes .ensures, said-one (permits q (byte code (a .i)))), omega (arith, c .yes2 .ensures, said-one (permits q (byte code (a .i + 1)))))
+    let prefix = said-one (permits q (byte code (a .i))) in
+    let opcode = said-one (permits q (byte code (a .i + 1))) in
+    (omega (arith, yes .yes .ensures, prefix, c .yes2 .ensures, opcode), omega (arith, yes .yes .ensures, prefix, c .yes2 .ensures, opcode))
 
 both-requires-2 : tie.Need-both-requires-2
 both-requires-2 c κs =
