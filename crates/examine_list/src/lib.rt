@@ -54,7 +54,7 @@ pub fn write_full(list: &[u8], w: &mut [u8])
 // What a list in full says of a byte.
 pub fn yes(list: &[u8], b: u8) -> u8
     requires { ⌜ full.Full (now list) ⌝ }
-    ensures { λ r. ⌜ r ≡ full.said (permits (now (list .entry)) b) ⌝ }
+    ensures { λ r. ⌜ (r ≡ full.said (permits (now (list .entry)) b)) × (r ≤ 1) ⌝ }
 {
     list[wide(b)]
 }
@@ -62,7 +62,7 @@ pub fn yes(list: &[u8], b: u8) -> u8
 // Two answers as one: yes where both are.
 pub fn both(a: u8, b: u8) -> u8
     requires { ⌜ (a ≤ 1) × (b ≤ 1) ⌝ }
-    ensures { λ r. ⌜ r ≡ full.said (ltb 0 a && ltb 0 b) ⌝ }
+    ensures { λ r. ⌜ (r ≡ full.said (ltb 0 a && ltb 0 b)) × (r ≤ 1) ⌝ }
 {
     a & b
 }

@@ -1,10 +1,5 @@
 -- `scan::with_alone` meets its contract.
 -- Assumes nothing.
-use borrow.Author.Needs.{needs}
-use native.Mathlib.Omega.{arith}
-use Rattle.format.specs.Bytes.{byte}
-use Rattle.format.specs.Permitted.{permits}
-use Rattle.examine_list.proofs.Full.{said-one}
 use Rattle.scan.proofs.Listed.{listed-alone}
 use Rattle.scan.proofs.with_alone.Statement.{statement}
 use Rattle.scan.proofs.with_alone.Tie as tie
@@ -22,15 +17,14 @@ yes-requires c κs =
 both-requires : tie.Need-both-requires
 both-requires c κs =
     let start = c .before .before .before .before in
-    let a = start .args in
-    (start .pre .1 .0, omega (arith, c .yes .ensures, said-one (permits (a .permitted .now) (byte (a .code .now) (a .i)))))
+    (start .pre .1 .0, c .yes .ensures .1)
 
 returns : tie.Need-returns
 returns c =
     let yes = c .before in
     let start = yes .before .before .before .before in
     let a = start .args in
-    listed-alone (a .permitted .now) (a .code .now) (a .i) (a .all) (start .pre .1 .2) (yes .yes .ensures) (c .both .ensures)
+    listed-alone (a .permitted .now) (a .code .now) (a .i) (a .all) (start .pre .1 .2) (yes .yes .ensures .0) (c .both .ensures .0)
 
 pub with-alone-spec : {M : Type 1} → statement M
 with-alone-spec = tie.close (tie.spec shared-slice-read-yes yes-requires both-requires returns)

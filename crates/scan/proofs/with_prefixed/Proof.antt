@@ -1,13 +1,6 @@
 -- `scan::with_prefixed` meets its contract.
 -- Assumes nothing.
-use borrow.Author.Needs.{needs}
 use native.Mathlib.Omega.{arith}
-use Prim.Native.Nat.{_+_}
-use mathlib.Core.Bool.{_&&_}
-use lib.Dec.{ltb}
-use Rattle.format.specs.Bytes.{byte}
-use Rattle.format.specs.Permitted.{permits}
-use Rattle.examine_list.proofs.Full.{said-one}
 use Rattle.scan.proofs.Listed.{listed-prefixed}
 use Rattle.scan.proofs.with_prefixed.Statement.{statement}
 use Rattle.scan.proofs.with_prefixed.Tie as tie
@@ -40,20 +33,13 @@ yes-requires-2 c κs =
 both-requires : tie.Need-both-requires
 both-requires c κs =
     let yes = c .before .before in
-    let start = yes .before .before .before .before in
-    let a = start .args in
-    let q = a .permitted .now in
-    let code = a .code .now in
-    let prefix = said-one (permits q (byte code (a .i))) in
-    let opcode = said-one (permits q (byte code (a .i + 1))) in
-    (omega (arith, yes .yes .ensures, prefix, c .yes2 .ensures, opcode), omega (arith, yes .yes .ensures, prefix, c .yes2 .ensures, opcode))
+    let small = yes .yes .ensures .1 in
+    (omega (arith, small, c .yes2 .ensures .1), omega (arith, small, c .yes2 .ensures .1))
 
 both-requires-2 : tie.Need-both-requires-2
 both-requires-2 c κs =
-    let yes2 = c .before in
-    let yes = yes2 .before .before in
-    let start = yes .before .before .before .before in
-    (start .pre .1 .0, omega (arith, c .both .ensures, said-one (ltb 0 (yes .yes .result) && ltb 0 (yes2 .yes2 .result))))
+    let start = c .before .before .before .before .before .before .before in
+    (start .pre .1 .0, c .both .ensures .1)
 
 returns : tie.Need-returns
 returns c =
@@ -62,8 +48,8 @@ returns c =
     let yes = yes2 .before .before in
     let start = yes .before .before .before .before in
     let a = start .args in
-    listed-prefixed (a .permitted .now) (a .code .now) (a .i) (a .all) (start .pre .1 .2) (yes .yes .ensures) (yes2 .yes2 .ensures)
-    (pair .both .ensures) (c .both2 .ensures)
+    listed-prefixed (a .permitted .now) (a .code .now) (a .i) (a .all) (start .pre .1 .2) (yes .yes .ensures .0) (yes2 .yes2 .ensures .0)
+    (pair .both .ensures .0) (c .both2 .ensures .0)
 
 pub with-prefixed-spec : {M : Type 1} → statement M
 with-prefixed-spec =
