@@ -26,9 +26,9 @@ follow-tables-requires c κs =
     let left =
     words (last .1 .0) (last .1 .1 .0) (last .1 .1 .1 .0) (last .1 .1 .1 .1 .0) (last .1 .1 .1 .1 .1 .0) (last .1 .1 .1 .1 .1 .1 .0) (last .1 .1 .1 .1 .1 .1 .1 .0)
     (last .1 .1 .1 .1 .1 .1 .1 .1 .0) (last .1 .1 .1 .1 .1 .1 .1 .1 .1 .0) in (
-      ready (a .f .now) (sizes lent) allow (a .permitted .now) left (used .u .given .0 .0) (length (a .frames .now)) (passing .load-passing .result) (passing .load-passing .ensures) (used .u .given .1),
+      ready (a .f .now) (sizes lent) allow _ left (used .u .given .0 .0) (length (a .frames .now)) (passing .load-passing .result) (passing .load-passing .ensures) (used .u .given .1),
       room
-          (a .f .now) (sizes lent) allow (a .permitted .now) left (used .u .given .0 .0) (length (a .frames .now)) (passing .load-passing .result) (passing .load-passing .ensures) (used .u .given .1),
+          (a .f .now) (sizes lent) allow _ left (used .u .given .0 .0) (length (a .frames .now)) (passing .load-passing .result) (passing .load-passing .ensures) (used .u .given .1),
     )
 
 same-length : tie.Need-same-length
