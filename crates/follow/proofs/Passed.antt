@@ -97,7 +97,8 @@ passed f m allow q rows c e = go (loading f m allow) refl e
             let s : d ≡ c = cc in
             rw (← s) (record { loads = l; few = leb-true (length (recordsOf d)) rows p; passes = eqb-true (examinePattern q (patternOf f d)) 0 r })
 
-module _ (f : List ℕ) (m : Nine) (allow : Allowance) (q : List ℕ) (w : Words) (u : Used) (n : ℕ) (r : Loaded) (e : loadedOf r w ≡ laid m (passingIn f m allow q (n / 2))) (rows : r ≡ loaded.Rows u) where
+module _ (f : List ℕ) (m : Nine) (allow : Allowance) (q : List ℕ) (w : Words) (u : Used) (n : ℕ) (r : Loaded)
+    (e : loadedOf r w ≡ laid m (passingIn f m allow q (n / 2))) (rows : r ≡ loaded.Rows u) where
   -- the content, which is loaded and passes
   record Has : Type 0 where
     c : Content

@@ -24,7 +24,8 @@ refusal-requires c κs =
     let left =
     words (last .1 .0) (last .1 .1 .0) (last .1 .1 .1 .0) (last .1 .1 .1 .1 .0) (last .1 .1 .1 .1 .1 .0) (last .1 .1 .1 .1 .1 .1 .0) (last .1 .1 .1 .1 .1 .1 .1 .0)
     (last .1 .1 .1 .1 .1 .1 .1 .1 .0) (last .1 .1 .1 .1 .1 .1 .1 .1 .1 .0) in
-    fits-given (a .f .now) (sizes lent) allow left (used .u .given .0 .0) (given (a .f .now) (sizes lent) allow left (used .u .given .0 .0) (loaded .load .result) (loaded .load .ensures) (used .u .given .1))
+    fits-given (a .f .now) (sizes lent) allow left (used .u .given .0 .0)
+    (given (a .f .now) (sizes lent) allow left (used .u .given .0 .0) (loaded .load .result) (loaded .load .ensures) (used .u .given .1))
 
 returns : tie.Need-returns
 returns c =

@@ -261,7 +261,8 @@ returns-3 c =
     let left =
     words (last .1 .0) (last .1 .1 .0) (last .1 .1 .1 .0) (last .1 .1 .1 .1 .0) (last .1 .1 .1 .1 .1 .0) (last .1 .1 .1 .1 .1 .1 .0) (last .1 .1 .1 .1 .1 .1 .1 .0)
     (last .1 .1 .1 .1 .1 .1 .1 .1 .0) (last .1 .1 .1 .1 .1 .1 .1 .1 .1 .0) in
-    refuses (a .f .now) (sizes lent) allow (a .permitted .now) left (used .u .given .0 .0) (length (a .frames .now)) (passing .load-passing .result) (passing .load-passing .ensures) (used .u .given .1)
+    refuses (a .f .now) (sizes lent) allow (a .permitted .now) left (used .u .given .0 .0) (length (a .frames .now)) (passing .load-passing .result) (passing .load-passing .ensures)
+    (used .u .given .1)
     (a .choices .now) (followed .follow-tables .last .1 .1 .1 .1 .1 .1 .0) (told .e .given .0 .0)
     (ap (λ x. out (followedOf x) (followed .follow-tables .last .1 .1 .1 .1 .1 .1 .0)) (sym (told .e .given .1)) ∙ followed .follow-tables .ensures)
     (words (last2 .0) (last2 .1 .0) (last2 .1 .1 .0) (last2 .1 .1 .1 .0) (last2 .1 .1 .1 .1 .0) (last2 .1 .1 .1 .1 .1 .0) (last2 .1 .1 .1 .1 .1 .1 .0)
