@@ -142,8 +142,9 @@ Without these every opcode is permitted. NAMES are opcodes as `blotheath opcodes
 numbers, or groups, parted by commas; in a file by blanks too. The options may be repeated, and count in the order in which
 they stand, the lines of a file in its place; one behind the others changes what they say: --school FILE --permit CLASS.
 Where the first of them forbids, all else is permitted. Where it permits, nothing else is: what every pattern needs has to be
-named too, as values and returns, and the prefixes, which no name but their own and everything permits; a pattern that is
-large enough to need them is else refused.
+named too, as values and returns, and so have the prefixes, without which a large pattern is refused; no group but prefixes
+and everything has them. The name of an opcode is that one alone, though Ruby's word may compile to more: def is in the
+groups methods and classes, class in class-definitions and classes.
 
 Every step that a file holds counts, also where no run reaches it. A step behind a prefix needs both to be permitted. A file
 that holds what is not is refused by 32. That tells the first such step of the first record that has one, and how to permit
