@@ -13,7 +13,7 @@
 
    Stack. No theorem bounds it. blotheath_load and blotheath_load_records need at most 448 KiB of stack, blotheath_examine and blotheath_follow
    at most 512 KiB: a chain of 1,024 records is the deepest, and the host's tests run it in threads of that stack. Every other call takes under
-   1 KiB, as measured. What a compiler writes needs far less: some 8 KiB for a load, 80 KiB for an examination or a run, and half a KiB for each
+   1 KiB, as measured. What a compiler writes needs far less: some 10 KiB for a load, 80 KiB for an examination or a run, and half a KiB for each
    level of nesting.
 
    Allowances. blotheath_load, blotheath_load_records, blotheath_examine and blotheath_follow are told, directly behind the file, how many bytes and
@@ -28,9 +28,10 @@
    nowhere smaller. An examination or a run is one of a file that loads under the allowance of its call: where the load is refused by 29, so are they.
 
    Permitted opcodes. blotheath_examine and blotheath_follow are told, directly behind the allowance, which opcodes a file may hold: permitted has a
-   byte for each of the 119 opcodes (BLOTHEATH_OPCODES), byte n for opcode n, which is 0 for no and anything else for yes. A byte that is missing is
-   a no: a shorter list permits none of the opcodes behind its end, and NULL with length 0 permits nothing. Bytes behind the 119th are not read. To
-   permit everything, set all 119 to 1: the prefixes 115 to 117 and STOP, 118, with which a compiled pattern ends, are opcodes too.
+   byte for each of the 119 opcodes (BLOTHEATH_OPCODES), byte n for opcode n, which is 0 for no and anything else for yes. Opcodes count from 0 in the
+   order of mruby's ops.h, as `blotheath opcodes` lists them: CLASS is 103. A byte that is missing is a no: a shorter list permits none of the opcodes
+   behind its end, and NULL with length 0 permits nothing. Bytes behind the 119th are not read. To permit everything, set all 119 to 1: the prefixes
+   115 to 117 and STOP, 118, with which a compiled pattern ends, are opcodes too.
    Every instruction of every record is held against the list, one that no run reaches no less than others; bytes of operands are no opcodes. An
    instruction with a prefix needs two yeses, that of its prefix and that of the opcode behind it. A file that holds what is not permitted is
    refused by 32, and the run of a file that passes meets permitted opcodes only. Permitting more never turns a pass into a refusal; a file that was

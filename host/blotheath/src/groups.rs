@@ -44,7 +44,12 @@ const GROUPS: &[Group] = &[
         "GETUPVAR", "SETUPVAR", "SSENDB", "SENDB", "BLKCALL", "RETURN_BLK", "BREAK", "BLKPUSH", "LAMBDA", "BLOCK",
     ]),
     group("methods", "definitions of methods, alias and undef", &["METHOD", "DEF", "TDEF", "SDEF", "ALIAS", "UNDEF", "TCLASS"]),
-    group("classes", "definitions of classes, modules and singleton classes, and their bodies", &["CLASS", "MODULE", "EXEC", "SDEF", "SCLASS"]),
+    group("classes", "class-definitions, and every def, since that writes a method into a class (TDEF, TCLASS)", &[
+        "CLASS", "MODULE", "EXEC", "DEF", "TDEF", "SDEF", "SCLASS", "TCLASS",
+    ]),
+    group("class-definitions", "class, module, class << self and def self.name, with their bodies, but no plain def", &[
+        "CLASS", "MODULE", "EXEC", "SDEF", "SCLASS",
+    ]),
     group("constants", "constants, by which classes are named too", &["GETCONST", "SETCONST", "GETMCNST", "SETMCNST", "OCLASS"]),
     group("variables", "variables of objects and of classes: @name, @@name", &["GETIV", "SETIV", "GETCV", "SETCV"]),
     group("globals", "global and special variables: $name", &["GETGV", "SETGV", "GETSV", "SETSV"]),
@@ -96,6 +101,15 @@ mod tests {
             assert_eq!(bytes.len(), group.names.len(), "{}", group.name);
             assert_eq!(opcodes_named(group.name), Some(bytes));
         }
+    }
+
+    #[test]
+    fn classes_have_every_def_and_class_definitions_no_plain_one() {
+        let of = |name: &str| -> BTreeSet<u8> { Group::of(name).unwrap().opcodes().collect() };
+        let (classes, definitions) = (of("classes"), of("class-definitions"));
+        assert!(classes.is_superset(&definitions));
+        let plain = ["DEF", "TDEF", "TCLASS"].map(|name| byte_of(name).unwrap());
+        assert_eq!(&classes - &definitions, BTreeSet::from(plain));
     }
 
     /// So a school can permit groups alone.

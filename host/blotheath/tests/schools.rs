@@ -3,7 +3,7 @@
 mod common;
 
 use blotheath::*;
-use common::build::{self, AT_CLASS, BLOCK, EXT2, STOP};
+use common::build::{self, AT_CLASS, BLOCK, DEF, EXT2, METHOD, SDEF, STOP, TCLASS, TDEF};
 use common::json::{Value, parse};
 use common::{
     Folder, Ran, files, held, run, run_in_64_mb_with, run_with, sample, sample_bytes, steers,
@@ -137,6 +137,64 @@ fn every_command_tells_the_step_and_how_to_permit_it() {
     }
 }
 
+/// A pattern that defines a method by this code, with the method's record.
+fn defining(code: &[u8]) -> Vec<u8> {
+    let method = build::record(0, &[STOP], &[], &[]);
+    let main = build::record(1, code, &[], &[b"rods"]);
+    build::file(&[build::irep(&[main, method].concat())])
+}
+
+/// A plain def, as older compilers and newer ones write it.
+const OLDER_DEF: [u8; 9] = [TCLASS, 1, METHOD, 2, 0, DEF, 1, 0, STOP];
+const NEWER_DEF: [u8; 5] = [TDEF, 1, 0, 0, STOP];
+
+/// Where `classes` refuses a plain def, the hint tells of the group that does not; where that would not help, it does not.
+#[test]
+fn a_plain_def_may_stay_permitted() {
+    let folder = Folder::new("permitted-def");
+    let school = folder.file("lower.txt", b"forbid globals CLASSES\n");
+    let hint = "; classes forbids every def, and class-definitions in its place leaves a plain def permitted";
+    for (code, name) in [(&OLDER_DEF[..], "TCLASS"), (&NEWER_DEF, "TDEF")] {
+        let file = defining(code);
+        for command in COMMANDS {
+            let options = &["--forbid", "class-definitions,globals"];
+            assert_eq!(told(command, options, &file).status, 0, "{command:?}");
+            let option = format!("--permit {name} behind the other options");
+            for (options, right) in [
+                (&["--forbid=classes"][..], format!("{option}{hint}")),
+                (
+                    &["--school", &school],
+                    format!("\"permit {name}\" at the end of {school}{hint}"),
+                ),
+                (
+                    &["--permit", "everything", "--forbid", "Classes"],
+                    format!("{option}{hint}"),
+                ),
+            ] {
+                let line = refused(command, options, &file);
+                assert!(line.contains(&right), "{line}");
+            }
+            for options in [
+                &["--forbid", "classes,methods"][..],
+                &["--forbid", "TCLASS,TDEF"],
+                &["--forbid", "everything"],
+                &["--permit", "STOP"],
+                &["--forbid", "classes", "--forbid", name],
+            ] {
+                let line = refused(command, options, &file);
+                assert!(!line.contains("class-definitions"), "{line}");
+            }
+        }
+    }
+    // def self.name is a definition of a singleton class.
+    let file = defining(&[SDEF, 1, 0, 0, STOP]);
+    for group in ["classes", "class-definitions"] {
+        let line = refused(COMMANDS[0], &["--forbid", group], &file);
+        assert!(line.contains("SDEF is not permitted"), "{line}");
+        assert!(!line.contains("every def"), "{line}");
+    }
+}
+
 /// What the hint says lets the file pass in the end.
 #[test]
 fn the_hint_helps() {
@@ -202,7 +260,7 @@ fn json_has_what_is_permitted_in_every_verdict() {
         }
     }
     for (permitted, verdict) in in_json(&["--forbid", "classes"], &build::class()) {
-        assert_eq!(texts(permitted.get("forbidden")).len(), 5);
+        assert_eq!(texts(permitted.get("forbidden")).len(), 8);
         assert_eq!(verdict.get("refusal").number(), 32.0);
         assert_eq!(verdict.get("sentence").text(), Refusal(32).sentence());
         let not = verdict.get("not_permitted");
@@ -249,6 +307,13 @@ fn the_page_tells_what_is_permitted() {
     assert!(refused.contains("<tr class=\"broken\"><td class=\"number\">32</td>"));
     assert!(refused.contains("<strong>Refused by 32:</strong> CLASS is not permitted."));
     assert!(refused.contains("Byte 52, 67, is marked"));
+    let also = "<p class=\"caution\">The file also holds EXEC, not permitted either.</p>";
+    assert!(refused.contains(also));
+    let refused = page(&["--forbid", "CLASS"], &build::class());
+    assert!(!refused.contains("also holds"));
+    let refused = page(&["--forbid", "everything"], &sample_bytes());
+    assert!(refused.contains("<p class=\"caution\">The file also holds "));
+    assert!(!refused.contains(" more, not permitted"));
 }
 
 /// A page is not written over a school's file.
@@ -387,6 +452,10 @@ fn school_files() {
     }
     let most = [b"forbid EXT3\n", &[b'#'; 65_524][..]].concat();
     assert_eq!(forbidden(&["--school", &school(&most)]), ["EXT3"]);
+    let ran = told(COMMANDS[0], &["--school", "-"], b"forbid EXT3\n");
+    assert_eq!((ran.status, &ran.out[..]), (2, ""));
+    let right = "blotheath: --school: standard input is read for patterns alone\n";
+    assert!(ran.err.starts_with(right), "{}", ran.err);
     let there = folder.path().to_str().unwrap();
     for path in ["/no/such/school.txt", there] {
         let ran = told(COMMANDS[0], &["--school", path], &sample_bytes());
@@ -399,6 +468,9 @@ fn school_files() {
     }
 }
 
+/// What is told of a name that is near to none.
+const LISTED: &str = "; `blotheath opcodes` lists them";
+
 #[test]
 fn unknown_names_are_wrong_usage() {
     for (name, hint) in [
@@ -408,9 +480,15 @@ fn unknown_names_are_wrong_usage() {
         ("metods", "; did you mean methods or METHOD?"),
         ("EXT4", "; did you mean EXT1, EXT2 or EXT3?"),
         ("everythin", "; did you mean everything?"),
-        ("weaving", ""),
-        ("-1", ""),
-        ("wea\u{1b}ving", ""),
+        ("class-bodies", LISTED),
+        ("class_definitions", "; did you mean class-definitions?"),
+        ("OP_MODULE", "; did you mean MODULE?"),
+        ("All", "; did you mean everything?"),
+        ("weaving", LISTED),
+        ("-1", LISTED),
+        ("0x67", LISTED),
+        ("op_", LISTED),
+        ("wea\u{1b}ving", LISTED),
     ] {
         for option in ["--permit", "--forbid"] {
             for command in COMMANDS {
@@ -429,6 +507,16 @@ fn unknown_names_are_wrong_usage() {
         let ran = run(&["examine", "a", "--forbid", name]);
         let right = format!("there is no opcode \"{name}\"; they go from 0 to 118\n");
         assert!(ran.status == 2 && ran.err.contains(&right), "{}", ran.err);
+    }
+    for name in ["nothing", "None"] {
+        for (option, told) in [
+            ("--permit", "to permit nothing, forbid everything"),
+            ("--forbid", "to forbid nothing, permit everything"),
+        ] {
+            let ran = run(&["examine", "a", option, name]);
+            let right = format!("there is no opcode and no group \"{name}\"; {told}\n");
+            assert!(ran.status == 2 && ran.err.contains(&right), "{}", ran.err);
+        }
     }
     // What only loads, or reads no file, looks at no opcode.
     for command in ["load", "opcodes"] {
@@ -511,11 +599,12 @@ fn groups_alone() {
         let ran = run(&["examine", name, "--permit", basics, "--permit", rest]);
         assert_eq!(ran.status, 0, "{}", ran.out);
         let pattern = fs::read(&path).unwrap();
-        let classes = Group::of("classes").unwrap();
         let has = held(&load(&pattern).unwrap());
-        let defines = classes.opcodes().any(|opcode| has.contains(&opcode));
-        let ran = run(&["examine", name, "--forbid", "classes"]);
-        assert_eq!(ran.status == 1, defines, "{}", ran.out);
+        for group in Group::all() {
+            let holds = group.opcodes().any(|opcode| has.contains(&opcode));
+            let ran = run(&["examine", name, "--forbid", group.name]);
+            assert_eq!(ran.status == 1, holds, "{}", ran.out);
+        }
     }
 }
 

@@ -21,6 +21,7 @@ Examples
     blotheath examine oval.mrb
     blotheath examine patterns/ more.mrb
     blotheath examine patterns/ --preview
+    blotheath examine patterns/ --forbid class-definitions,globals
     blotheath examine patterns/ --school lower-school.txt
     cat oval.mrb | blotheath examine -
 ";
@@ -142,14 +143,15 @@ Without these every opcode is permitted. NAMES are opcodes as `blotheath opcodes
 numbers, or groups, parted by commas; in a file by blanks too. The options may be repeated, and count in the order in which
 they stand, the lines of a file in its place; one behind the others changes what they say: --school FILE --permit CLASS.
 Where the first of them forbids, all else is permitted. Where it permits, nothing else is: what every pattern needs has to be
-named too, as values and returns, and the prefixes, which no name but their own and everything permits; a pattern that is
-large enough to need them is else refused.
+named too, as values and returns, and so have the prefixes, without which a large pattern is refused; no group but prefixes
+and everything has them. The name of an opcode is that one alone, though Ruby's word may compile to more: def is in the
+groups methods and classes, class in class-definitions and classes.
 
 Every step that a file holds counts, also where no run reaches it. A step behind a prefix needs both to be permitted. A file
-that holds what is not is refused by 32. That tells the first such step of the first record that has one, and how to permit
-it. What a called method does is no step of the file: Class.new makes a class by a call alone. What is permitted is told
-first, where it is not everything or where a file says so. In JSON \"permitted\" is always there, and \"not_permitted\" where
-32 is met.
+that holds anything else is refused by 32. That tells the first such step of the first record that has one, how to permit it,
+and what else the file holds that is not permitted. What a called method does is no step of the file: Class.new makes a class
+by a call alone. What is permitted is told first, where it is not everything or where a file says so. In JSON \"permitted\" is
+always there, and \"not_permitted\" where 32 is met.
 
 Groups
 ";
@@ -169,7 +171,7 @@ instruction begins is refused by 18. A plain operand that counts no registers ma
 
 The kinds are the proved archive's answers; the rest is this program's own, and tests hold all but the names against what
 the archive fetches, examines and follows. In JSON \"behind\" has the sizes by the prefix's byte; they are null for a prefix.
-Behind them stand the groups that --permit and --forbid take, with their opcodes; in JSON \"groups\".
+Behind the opcodes stand the groups that --permit and --forbid take, each with its own; in JSON \"groups\".
 
 Examples
     blotheath opcodes

@@ -14,6 +14,8 @@ use std::path::{Path, PathBuf};
 #[derive(Debug, Clone, Default, PartialEq, Eq)]
 pub struct School {
     pub permitted: Permitted,
+    /// What would be permitted with the narrower group in the place of `classes`.
+    narrowed: Permitted,
     /// The files that said so.
     pub files: Vec<PathBuf>,
     /// Whether a file has the last word, and no option behind it.
@@ -33,6 +35,10 @@ enum Verb {
     Permit,
     Forbid,
 }
+
+/// The group that has every def, and the one that has no plain def.
+const CLASSES: &str = "classes";
+const CLASS_DEFINITIONS: &str = "class-definitions";
 
 /// An order to permit or to forbid what some names stand for, and where it stands.
 struct Order {
@@ -56,15 +62,11 @@ impl School {
                 }
             }
         }
-        let mut permitted = match orders.first().map(|order| order.verb) {
-            Some(Verb::Permit) => Permitted::nothing(),
-            Some(Verb::Forbid) | None => Permitted::everything(),
-        };
-        for order in &orders {
-            order.take(&mut permitted)?;
-        }
+        let permitted = permitted_by(&orders)?;
+        orders.iter_mut().for_each(Order::narrow);
         Ok(School {
             permitted,
+            narrowed: permitted_by(&orders)?,
             files,
             ends_with_file: matches!(rules.last(), Some(Rule::File(_))),
         })
@@ -89,7 +91,7 @@ impl School {
         let mut others = self.held(pattern);
         others.retain(|opcode| !opcodes.contains(opcode));
         Forbidden {
-            hint: self.hint(&names(&opcodes), &others),
+            how: self.how(&opcodes),
             opcodes,
             others,
         }
@@ -106,19 +108,21 @@ impl School {
         held.into_iter().collect()
     }
 
-    /// How to permit opcodes of these names, and which others a pattern holds that are not permitted.
-    fn hint(&self, names: &[&str], others: &[u8]) -> String {
+    /// How to permit opcodes.
+    fn how(&self, opcodes: &[u8]) -> String {
+        let names = names(opcodes);
         let option = format!("--permit {} behind the other options", names.join(","));
-        let mut hint = format!("to permit that, add {option}");
+        let mut how = format!("to permit that, add {option}");
         if let Some(file) = self.files.last().filter(|_| self.ends_with_file) {
             let (names, file) = (names.join(" "), text::path(file));
-            hint += &format!(", or the line \"permit {names}\" at the end of {file}");
+            how += &format!(", or the line \"permit {names}\" at the end of {file}");
         }
-        if !others.is_empty() {
-            let others = listed(others, MOST_NAMES);
-            hint += &format!("; the file also holds {others}, not permitted either");
+        if opcodes.iter().all(|opcode| self.narrowed.permits(*opcode)) {
+            how += &format!(
+                "; {CLASSES} forbids every def, and {CLASS_DEFINITIONS} in its place leaves a plain def permitted"
+            );
         }
-        hint
+        how
     }
 }
 
@@ -126,12 +130,41 @@ impl School {
 pub struct Forbidden {
     opcodes: Vec<u8>,
     others: Vec<u8>,
-    pub hint: String,
+    how: String,
+}
+
+impl Forbidden {
+    /// How to permit it, and what else is not permitted.
+    pub fn hint(&self) -> String {
+        match self.also(MOST_NAMES) {
+            Some(also) => format!("{}; {also}", self.how),
+            None => self.how.clone(),
+        }
+    }
+
+    /// What else the pattern holds that is not permitted, with at most so many names.
+    pub fn also(&self, most: usize) -> Option<String> {
+        let others = listed(&self.others, most);
+        let told = || format!("the file also holds {others}, not permitted either");
+        (!others.is_empty()).then(told)
+    }
 }
 
 /// The names of opcodes.
 fn names(opcodes: &[u8]) -> Vec<&'static str> {
     opcodes.iter().copied().filter_map(opcode_name).collect()
+}
+
+/// What orders permit, taken in turn.
+fn permitted_by(orders: &[Order]) -> Result<Permitted, String> {
+    let mut permitted = match orders.first().map(|order| order.verb) {
+        Some(Verb::Permit) => Permitted::nothing(),
+        Some(Verb::Forbid) | None => Permitted::everything(),
+    };
+    for order in orders {
+        order.take(&mut permitted)?;
+    }
+    Ok(permitted)
 }
 
 impl Order {
@@ -156,27 +189,65 @@ impl Order {
                 Verb::Permit => permitted.permit_named(name),
                 Verb::Forbid => permitted.forbid_named(name),
             };
-            taken.map_err(|unknown| format!("{}: {}", self.from, fault(&unknown)))?;
+            taken.map_err(|unknown| format!("{}: {}", self.from, self.fault(&unknown)))?;
         }
         Ok(())
     }
+
+    /// Forbids the narrower group where it forbids `classes`.
+    fn narrow(&mut self) {
+        if self.verb == Verb::Forbid {
+            let names = self.names.iter_mut();
+            let wide = names.filter(|name| name.eq_ignore_ascii_case(CLASSES));
+            wide.for_each(|name| *name = CLASS_DEFINITIONS.to_owned());
+        }
+    }
+
+    /// What is wrong with a name, and what may be meant by it.
+    fn fault(&self, unknown: &UnknownName) -> String {
+        let UnknownName(name) = unknown;
+        let shown = text::word(name);
+        if name.bytes().all(|byte| byte.is_ascii_digit()) {
+            let last = Opcode::all().last().map_or(0, |opcode| opcode.byte);
+            return format!("there is no opcode {shown}; they go from 0 to {last}");
+        }
+        format!(
+            "there is no opcode and no group {shown}{}",
+            self.instead(name)
+        )
+    }
+
+    /// What to write in the place of an unknown name.
+    fn instead(&self, name: &str) -> String {
+        let name = name.to_ascii_lowercase();
+        match (&name[..], self.verb) {
+            ("all", _) => "; did you mean everything?".to_owned(),
+            ("nothing" | "none", Verb::Permit) => {
+                "; to permit nothing, forbid everything".to_owned()
+            }
+            ("nothing" | "none", Verb::Forbid) => {
+                "; to forbid nothing, permit everything".to_owned()
+            }
+            (name, _) => near(name.strip_prefix(PREFIX_IN_C).unwrap_or(name)),
+        }
+    }
 }
+
+/// What the names of opcodes begin with in mruby's C.
+const PREFIX_IN_C: &str = "op_";
 
 /// The most names that are told for one that is unknown.
 const MOST_MEANT: usize = 3;
 
-/// What is wrong with a name.
-fn fault(unknown: &UnknownName) -> String {
-    let UnknownName(name) = unknown;
-    let shown = text::word(name);
-    if name.bytes().all(|byte| byte.is_ascii_digit()) {
-        let last = Opcode::all().last().map_or(0, |opcode| opcode.byte);
-        return format!("there is no opcode {shown}; they go from 0 to {last}");
-    }
+/// The names that are near to an unknown one, or where all of them are listed.
+fn near(name: &str) -> String {
     let opcodes = Opcode::all().map(|opcode| opcode.name);
     let known = opcodes.chain(Group::all().map(|group| group.name));
-    let hint = meant(name, known, MOST_MEANT);
-    format!("there is no opcode and no group {shown}{hint}")
+    let question = meant(name, known, MOST_MEANT);
+    match question.is_empty() {
+        true => "; `blotheath opcodes` lists them".to_owned(),
+        false => question,
+    }
 }
 
 /// The most bytes of a school's file.
@@ -187,6 +258,9 @@ const BYTE_ORDER_MARK: char = '\u{feff}';
 
 /// Reads the orders of a school's file, one a line; `#` begins a comment.
 fn read(path: &Path) -> Result<Vec<Order>, String> {
+    if path == Path::new("-") {
+        return Err("--school: standard input is read for patterns alone".to_owned());
+    }
     let name = text::path(path);
     let text = read_text(path).map_err(|fault| format!("{name}: {}", text::fault(&fault)))?;
     let lines = text.trim_start_matches(BYTE_ORDER_MARK).lines();
@@ -279,7 +353,7 @@ pub fn forbidden_member(json: &mut Json, forbidden: &Forbidden) -> io::Result<()
     json.key("not_permitted")?.object(|json| {
         names_member(json, "opcodes", &forbidden.opcodes)?;
         names_member(json, "others", &forbidden.others)?;
-        json.key("hint")?.string(&forbidden.hint)
+        json.key("hint")?.string(&forbidden.hint())
     })
 }
 

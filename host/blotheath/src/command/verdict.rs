@@ -98,7 +98,7 @@ impl<'a> Verdict<'a> {
                 ..
             } => {
                 let beyond = excess.as_ref().map(allowance::beyond);
-                let hint = forbidden.as_ref().map(|forbidden| forbidden.hint.clone());
+                let hint = forbidden.as_ref().map(Forbidden::hint);
                 refused(*refusal, place.as_ref(), beyond.or(hint).as_deref())
             }
         }

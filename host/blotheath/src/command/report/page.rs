@@ -146,15 +146,8 @@ impl Page<'_> {
         }
         self.facts(out)?;
         self.terms(out)?;
-        if let Verdict::Refused {
-            excess: Some(excess),
-            ..
-        } = self.verdict
-        {
-            let told = sentence(&allowance::beyond(excess));
-            writeln!(out, "<p class=\"caution\">{}</p>", escape(&told))?;
-        }
-        if let Some(told) = self.other_walk() {
+        let cautions = [self.excess(), self.other_opcodes(), self.other_walk()];
+        for told in cautions.into_iter().flatten() {
             writeln!(out, "<p class=\"caution\">{}</p>", escape(&sentence(&told)))?;
         }
         if let Some(told) = self.other_source() {
@@ -222,6 +215,22 @@ impl Page<'_> {
             writeln!(out, "<div{class}><dt>{name}</dt><dd>{value}</dd></div>")?;
         }
         writeln!(out, "</dl>")
+    }
+
+    /// How far the file is beyond its allowance.
+    fn excess(&self) -> Option<String> {
+        match self.verdict {
+            Verdict::Refused { excess, .. } => excess.as_ref().map(allowance::beyond),
+            Verdict::Passes(_) => None,
+        }
+    }
+
+    /// What else the file holds that is not permitted.
+    fn other_opcodes(&self) -> Option<String> {
+        match self.verdict {
+            Verdict::Refused { forbidden, .. } => forbidden.as_ref()?.also(usize::MAX),
+            Verdict::Passes(_) => None,
+        }
     }
 
     /// How far the walk over the local names goes, where it is not one visit to each record.
