@@ -8,7 +8,7 @@ use blotheath::*;
 use common::build::{self, STOP};
 use common::json::{Value, parse};
 use common::{
-    EVERYTHING, Folder, Numbers, Ran, damaged, files, run, run_in_64_mb, run_with, sample_bytes,
+    EVERYTHING, Folder, Numbers, damaged, files, run, run_in_64_mb, run_with, sample_bytes, told,
 };
 use std::fs;
 
@@ -476,12 +476,6 @@ const COMMANDS: [(&[&str], &[&str]); 5] = [
     (&["follow"], &["go"]),
     (&["report", "-o", "/dev/null"], &[]),
 ];
-
-/// What a command says of a file from standard input under these options.
-fn told(command: (&[&str], &[&str]), options: &[&str], file: &[u8]) -> Ran {
-    let words = [command.0, options, &["-"], command.1].concat();
-    run_with(&words, file)
-}
 
 #[test]
 fn every_command_tells_the_allowance_where_it_is_not_the_desktops() {

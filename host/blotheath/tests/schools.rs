@@ -6,7 +6,7 @@ use blotheath::*;
 use common::build::{self, AT_CLASS, BLOCK, DEF, EXT2, METHOD, SDEF, STOP, TCLASS, TDEF};
 use common::json::{Value, parse};
 use common::{
-    Folder, Ran, files, held, run, run_in_64_mb_with, run_with, sample, sample_bytes, steers,
+    Folder, files, held, run, run_in_64_mb_with, run_with, sample, sample_bytes, steers, told,
 };
 use std::fs;
 use std::path::{Path, PathBuf};
@@ -19,12 +19,6 @@ const COMMANDS: [(&[&str], &[&str]); 4] = [
     (&["follow"], &["go"]),
     (&["report", "-o", "/dev/null"], &[]),
 ];
-
-/// What a command says of a file from standard input under these options.
-fn told(command: (&[&str], &[&str]), options: &[&str], file: &[u8]) -> Ran {
-    let words = [command.0, options, &["-"], command.1].concat();
-    run_with(&words, file)
-}
 
 #[test]
 fn every_command_tells_what_is_permitted_where_that_is_not_everything() {

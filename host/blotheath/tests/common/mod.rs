@@ -81,6 +81,12 @@ pub fn run_with(words: &[&str], input: &[u8]) -> Ran {
     )
 }
 
+/// What a command says of a file from standard input under these options; the command has words in front of the file and behind it.
+pub fn told(command: (&[&str], &[&str]), options: &[&str], file: &[u8]) -> Ran {
+    let words = [command.0, options, &["-"], command.1].concat();
+    run_with(&words, file)
+}
+
 pub fn run(words: &[&str]) -> Ran {
     run_with(words, b"")
 }
