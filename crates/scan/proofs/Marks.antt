@@ -1,6 +1,6 @@
 -- The loop that tests 16, 25 and 32 and sets the flags: it goes from instruction to instruction over flags that are 0.
 -- Assumes nothing.
-use Prim.Native.Nat.{ℕ, zero, suc, _+_, _-_, _≤_, _<_}
+use Prim.Native.Nat.{ℕ, _+_, _-_, _≤_, _<_}
 use native.Mathlib.Nat.{sub-zero, eq-or-lt-of-le}
 use native.Mathlib.Omega.{arith}
 use mathlib.Core.Path.{_≡_, refl, sym, ap, _∙_}
@@ -14,7 +14,7 @@ use borrow.Author.Tests.{ltb-true, ltb-false, lt-ltb}
 use Rattle.format.specs.Bytes.{byte, refuse, first}
 use Rattle.format.specs.Insn.{next}
 use Rattle.format.specs.Pattern.{reach, begins}
-use Rattle.format.specs.Permitted.{permits, permittedAt}
+use Rattle.format.specs.Permitted.{permittedAt}
 use Rattle.format.specs.Exam.{firstAt, at16, at32, exam16, exam32}
 use Rattle.runs.proofs.Loops.{firstAt-turn, firstAt-end, reach-turn, reach-over}
 use Rattle.flags.specs.Flags.{Entire, toldAt}

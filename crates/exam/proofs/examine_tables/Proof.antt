@@ -1,7 +1,7 @@
 -- `exam::examine_tables` meets its contract.
 -- Assumes nothing.
 use native.Mathlib.Omega.{arith}
-use mathlib.Core.Path.{refl, sym, _∙_}
+use mathlib.Core.Path.{sym, _∙_}
 use borrow.Author.Tests.{not-true, not-false}
 use Rattle.examine_list.proofs.Full.{blank, written-full}
 use Rattle.exam.proofs.Join.{tree-bad, tree-good}

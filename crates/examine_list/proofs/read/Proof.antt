@@ -1,7 +1,7 @@
 -- `examine_list::read` meets its contract.
 -- Assumes nothing.
 use native.Mathlib.Omega.{arith}
-use borrow.Author.Tests.{le-leb, lt-leb}
+use borrow.Author.Tests.{le-leb}
 use Rattle.examine_list.proofs.Full.{least-above}
 use Rattle.examine_list.proofs.read.Statement.{statement}
 use Rattle.examine_list.proofs.read.Tie as tie

@@ -3,7 +3,7 @@
 use borrow.Author.Needs.{needs}
 use native.Mathlib.Omega.{arith}
 use Prim.Native.Nat.{_-_}
-use mathlib.Core.Path.{_≡_, sym, _∙_}
+use mathlib.Core.Path.{sym, _∙_}
 use lib.ListN.{length}
 use Rattle.examine_list.proofs.Full.{Writing, least-below, writing-start, writing-inside, writing-turn, writing-end}
 use Rattle.examine_list.proofs.write_full.Statement.{statement}
