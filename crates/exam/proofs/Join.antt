@@ -2,20 +2,20 @@
 -- Assumes nothing.
 use Prim.Native.Nat.{ℕ, zero, suc, _+_, _-_, _*_, _≤_, _<_}
 use native.Mathlib.Omega.{arith}
-use mathlib.Core.Path.{_≡_, refl, sym, ap, _∙_}
+use mathlib.Core.Path.{_≡_, refl, sym, ap, _∙_, fun-ext}
 use mathlib.Core.Bool.{Bool, true, false}
 use mathlib.Core.List.{List, [], _∷_}
 use lib.Dec.{eqb}
 use lib.ListN.{take, drop}
 use borrow.Author.Tests.{ne-eqb}
 use Rattle.format.specs.Bytes.{refuse, first}
-use Rattle.format.specs.Insn.{Role, reg, pool, sym as symbol, child, plain, roles, rest, rowAt, operandsAt}
+use Rattle.format.specs.Insn.{Role, reg, pool, sym as symbol, child, plain, roles, rowAt, operandsAt}
 use Rattle.format.specs.Registers.{Range, registersAt}
 use Rattle.format.specs.Line.{rowsFrom}
 use Rattle.format.specs.Lookup.{recordWord}
 use Rattle.format.specs.Tree.{layout, whole}
 use Rattle.format.specs.Pattern.{Record, rlens}
-use Rattle.format.specs.Exam.{below, allBelow, operandsBelow, rangeBelow, bounded, follows, firstAt, at1718, exam1718, exam19, exam20, examineRecord, examineAll, examinePattern}
+use Rattle.format.specs.Exam.{below, allBelow, operandsBelow, rangeBelow, bounded, follows, firstAt, exam1718, exam19, exam20, examineRecord, examineAll, examinePattern}
 use Rattle.format.proofs.RowsFrom.{rowsFrom-map, rows-start, rows-turn, rows-end}
 use Rattle.runs.proofs.Lists.{same-permits}
 use Rattle.flags.specs.Flags.{bare}
@@ -26,12 +26,6 @@ use Rattle.exam.specs.Part.{examinePart}
 use Rattle.scan.proofs.First.{first-none, first-some, first-assoc}
 
 -- of a record only the bytes and the counts matter to 17 and 18
-firstAt-same : (f g : ℕ → ℕ) → ((o : ℕ) → f o ≡ g o) → (bs : List ℕ) (left o : ℕ) → firstAt f bs left o ≡ firstAt g bs left o
-unfolding firstAt
-firstAt-same f g e [] left o = refl
-firstAt-same f g e (b ∷ bs) zero o = rw (e o, firstAt-same f g e bs (rest b bs) (suc o))
-firstAt-same f g e (b ∷ bs) (suc left) o = firstAt-same f g e bs left (suc o)
-
 record Same (l : List ℕ) (R : Record) : Type 0 where
   pub regs : bare l [] .nregs ≡ R .nregs
   pub constants : bare l [] .npool ≡ R .npool
@@ -64,7 +58,8 @@ module _ (l : List ℕ) (R : Record) (s : Same l R) where
   bare-same : exam1718 (bare l (R .code)) ≡ exam1718 R
   unfolding exam1718
   bare-same =
-      firstAt-same (at1718 (bare l (R .code))) (at1718 R) (λ o. ap (λ (b : Bool). first (refuse 17 b) (refuse 18 (follows (R .code) o))) (bounded-same o)) (R .code) 0 0
+      ap (λ (f : ℕ → ℕ). firstAt f (R .code) 0 0)
+      (fun-ext (λ o. ap (λ (b : Bool). first (refuse 17 b) (refuse 18 (follows (R .code) o))) (bounded-same o)))
 
 -- the words that the code reads, and two that it counts
 abbrev pub limitsAt : List ℕ → ℕ → ℕ → ℕ → List ℕ

@@ -5,16 +5,17 @@ use native.Mathlib.Nat.{eq-or-lt-of-le}
 use native.Mathlib.Omega.{arith}
 use mathlib.Core.Path.{_≡_, refl, sym, ap, _∙_}
 use mathlib.Core.Logic.{_⊎_, inl, inr}
-use mathlib.Core.Bool.{Bool, true, false, _&&_, cond}
+use mathlib.Core.Bool.{Bool, true, false, _&&_}
 use mathlib.Core.List.{List}
-use lib.Dec.{ltb, leb}
+use lib.Dec.{ltb}
 use lib.Bits.{bitAnd}
 use lib.ListN.{length, getD, set, replicate, length-set, length-replicate, List·getD-eq-default}
 use lib.Seq.{getD-set-same, getD-set-other}
-use borrow.Author.Tests.{lt-ltb, le-ltb, ltb-true, ltb-false, leb-true, leb-false}
+use borrow.Author.Tests.{lt-ltb, le-ltb, ltb-true, ltb-false}
 use Rattle.format.specs.Allowance.{least}
 use Rattle.format.specs.Insn.{known}
 use Rattle.format.specs.Permitted.{permits}
+use Rattle.format.proofs.Least.{least-below, least-either}
 use Rattle.format.proofs.Places.{zeros}
 use Rattle.examine_list.specs.Full.{said, Blank, Written, Full}
 
@@ -66,27 +67,6 @@ pub record Writing (q w : List ℕ) (i : ℕ) : Type 0 where
   pub few : i ≤ least (length q) 119
   pub upto : (b : ℕ) → b < i → getD w b 0 ≡ said (ltb 0 (getD q b 0))
   pub clear : (b : ℕ) → i ≤ b → getD w b 0 ≡ 0
-
-pub least-below : (n k : ℕ) → (least n k ≤ n) × (least n k ≤ k)
-least-below n k = go (leb n k) refl
-  where
-    go : (x : Bool) → leb n k ≡ x → (cond x n k ≤ n) × (cond x n k ≤ k)
-    go true e = (omega arith, leb-true n k e)
-    go false e = let h = leb-false n k e in (omega arith, omega arith)
-
-pub least-above : (n k : ℕ) → k ≤ n → k ≡ least n k
-least-above n k h = go (leb n k) refl
-  where
-    go : (x : Bool) → leb n k ≡ x → k ≡ cond x n k
-    go true e = let g = leb-true n k e in omega arith
-    go false e = refl
-
-pub least-either : (n k : ℕ) → (least n k ≡ n) ⊎ (least n k ≡ k)
-least-either n k = go (leb n k)
-  where
-    go : (x : Bool) → (cond x n k ≡ n) ⊎ (cond x n k ≡ k)
-    go true = inl refl
-    go false = inr refl
 
 -- past what is read the list says no
 not-past : (q : List ℕ) (b : ℕ) → least (length q) 119 ≤ b → permits q b ≡ false

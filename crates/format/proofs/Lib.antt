@@ -1,5 +1,6 @@
 pub mod Bytes
 pub mod Answers
+pub mod Least
 pub mod Texts
 pub mod Pool
 pub mod File

@@ -5,7 +5,7 @@ use Prim.Native.Nat.{ℕ, _/_, _≤_, _<_}
 use native.Mathlib.Nat.{le-refl, le-trans}
 use native.Mathlib.Omega.{arith}
 use mathlib.Core.Path.{_≡_, refl, sym, subst, _∙_}
-use mathlib.Core.Logic.{_↔_, _⊎_, inl, inr}
+use mathlib.Core.Logic.{_⊎_, inl, inr}
 use mathlib.Core.Bool.{Bool, true, false, cond, _&&_}
 use mathlib.Core.List.{List}
 use lib.Dec.{T, leb, leb·zero, leb→le}
@@ -19,6 +19,7 @@ use Rattle.format.specs.Load.{Nine, Counts, recordsOf, tablesOf, used, fits, en
 use Rattle.format.specs.Exam.{FilePasses, examining, examine}
 use Rattle.format.specs.Run.{following, follow}
 use Rattle.format.proofs.Answers.{ok-refused}
+use Rattle.format.proofs.Least.{least-iff, least-below}
 use Rattle.format.proofs.File.{Accepted}
 use Rattle.format.proofs.Places.{records-length}
 use Rattle.format.proofs.Table.{both}
@@ -28,20 +29,12 @@ use Rattle.layout.proofs.Inside.{loading-reading, loading-held}
 use Rattle.laws.proofs.Unlimited as free
 use Rattle.laws.proofs.Cut.{Beyond, Cut, whole, beyond, cut-whole, cut-beyond, reading-29, reading-cut}
 
--- within the lesser of two numbers is within both
-pub least-iff : (k a b : ℕ) → (k ≤ least a b) ↔ ((k ≤ a) × (k ≤ b))
-least-iff k a b = go (leb a b) refl
-  where
-    go : (t : Bool) → leb a b ≡ t → (k ≤ cond t a b) ↔ ((k ≤ a) × (k ≤ b))
-    go true e = let l = leb-true a b e in (λ h. (h, omega arith), λ x. x .0)
-    go false e = let l = leb-false a b e in (λ h. (omega arith, h), λ x. x .1)
-
 -- "any that is nowhere smaller" is granted nowhere less
 pub granted-within : (a b : Allowance) → Within a b → Within (granted a) (granted b)
 granted-within a b w = record { bytes = less (a .bytes) (b .bytes) 65536 (w .bytes); records = less (a .records) (b .records) 1024 (w .records) }
   where
     less : (a b n : ℕ) → a ≤ b → least a n ≤ least b n
-    less a b n h = let l = least-iff (least a n) a n .0 (le-refl _) in least-iff (least a n) b n .1 (le-trans (l .0) h, l .1)
+    less a b n h = let l = least-below a n in least-iff (least a n) b n .1 (le-trans (l .0) h, l .1)
 
 -- "A larger number in it counts as the desktop's."
 pub granted-larger : (a : Allowance) → Within desktop a → granted a ≡ desktop

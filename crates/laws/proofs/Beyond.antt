@@ -17,13 +17,14 @@ use Rattle.format.specs.File.{Content, fileReading}
 use Rattle.format.specs.Load.{Nine, recordsOf, tablesOf, used, fits, ending, loadingWithin, loading, load}
 use Rattle.format.specs.Exam.{passing, examining, examine}
 use Rattle.format.specs.Run.{following, Followed, follow}
+use Rattle.format.proofs.Least.{least-iff}
 use Rattle.format.proofs.Answers.{ok-refused, refused-same, Refuses, answered, tested}
 use Rattle.laws.proofs.Numbers.{Among, freeNumbers, conditionNumbers, further}
 use Rattle.laws.proofs.Endings.{free-ends}
 use Rattle.laws.proofs.Refusals.{laid-refuses, passing-refuses, behind-refuses}
 use Rattle.laws.proofs.Unlimited as free
 use Rattle.laws.proofs.Cut.{Beyond, Cut, whole, beyond, beyond-more, cut-beyond, Allowed, reading-cut}
-use Rattle.laws.proofs.Allowance.{least-iff, fits-few, bytes-29, cut-load, refused-load, refused-examine, refused-follow, desktop-loading, larger-loading}
+use Rattle.laws.proofs.Allowance.{fits-few, bytes-29, cut-load, refused-load, refused-examine, refused-follow, desktop-loading, larger-loading}
 
 -- "the file .. is beyond the caller's allowance but within the desktop's"
 pub record BytesBeyond (f : List ℕ) (a : Allowance) : Type 0 where

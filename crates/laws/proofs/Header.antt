@@ -20,6 +20,7 @@ use Rattle.format.specs.Allowance.{Allowance, granted}
 use Rattle.format.specs.File.{Content, nothing, sectionAt, sections, identIsRite, statedSize, majorIs04, fileRefusal, fileReading}
 use Rattle.format.specs.Load.{Nine, tablesOf, used, fits, ending, loadingWithin, loading, load}
 use Rattle.format.specs.Exam.{FilePasses}
+use Rattle.format.proofs.Least.{least-iff}
 use Rattle.format.proofs.Answers.{refused-same, Refuses, answered, tested}
 use Rattle.format.proofs.File.{accepted}
 use Rattle.layout.proofs.Ends.{reading-accepted}
@@ -28,7 +29,7 @@ use Rattle.laws.proofs.Numbers.{Among, sectionNumbers, further}
 use Rattle.laws.proofs.Tests.{without, tests-are, number-iff}
 use Rattle.laws.proofs.Endings.{cut-sections-end}
 use Rattle.laws.proofs.Refusals.{laid-refuses}
-use Rattle.laws.proofs.Allowance.{least-iff, fits-nothing}
+use Rattle.laws.proofs.Allowance.{fits-nothing}
 
 -- "the first four bytes are .. ASCII RITE", as the bytes and as the test
 pub rite-iff : (f : List ℕ) → 4 ≤ length f → (take 4 f ≡ riteIdent) ↔ T (identIsRite f)

@@ -2,7 +2,7 @@
 -- Assumes nothing.
 use native.Mathlib.Omega.{arith}
 use borrow.Author.Tests.{le-leb}
-use Rattle.examine_list.proofs.Full.{least-above}
+use Rattle.format.proofs.Least.{least-above}
 use Rattle.examine_list.proofs.read.Statement.{statement}
 use Rattle.examine_list.proofs.read.Tie as tie
 

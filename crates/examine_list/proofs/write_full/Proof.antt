@@ -5,7 +5,8 @@ use native.Mathlib.Omega.{arith}
 use Prim.Native.Nat.{_-_}
 use mathlib.Core.Path.{sym, _∙_}
 use lib.ListN.{length}
-use Rattle.examine_list.proofs.Full.{Writing, least-below, writing-start, writing-inside, writing-turn, writing-end}
+use Rattle.format.proofs.Least.{least-below}
+use Rattle.examine_list.proofs.Full.{Writing, writing-start, writing-inside, writing-turn, writing-end}
 use Rattle.examine_list.proofs.write_full.Statement.{statement}
 use Rattle.examine_list.proofs.write_full.Tie as tie
 
