@@ -1,5 +1,5 @@
 -- Examination: conditions 15 to 20 of paper 01, 17 widened by paper 02 j), 25 of b) and 32 of n), and the examination that answers the first that is met
--- in the papers' order. It is for one list q of permitted opcodes.
+-- in the papers' order; i) that of a single record. It is for one list q of permitted opcodes.
 -- Assumes nothing.
 use Prim.Native.Nat.{ℕ, zero, suc, _<_}
 use mathlib.Core.Path.{_≡_}
@@ -143,22 +143,30 @@ pub record Bad32 (q : List ℕ) (r : Record) : Type 0 where
   pub starts : T (begins (r .code) at)
   pub forbidden : T (not (permittedAt q (r .code) at))
 
+-- condition n is met by a record
+pub data RecordMeets (q : List ℕ) (r : Record) : ℕ → Type 0 where
+  meets16 : Bad16 r → RecordMeets q r 16
+  meets17 : Bad17 r → RecordMeets q r 17
+  meets18 : Bad18 r → RecordMeets q r 18
+  meets19 : Bad19 r → RecordMeets q r 19
+  meets20 : Bad20 r → RecordMeets q r 20
+  meets25 : Bad25 r → RecordMeets q r 25
+  meets32 : Bad32 q r → RecordMeets q r 32
+
+-- i): a "record passes by itself"
+abbrev pub RecordPasses : List ℕ → Record → Type 0
+RecordPasses q r = (n : ℕ) → ¬ RecordMeets q r n
+
 -- then of a pattern: one of its records is so
 pub record Some (P : Record → Type 0) (p : Pattern) : Type 0 where
   pub rec : ℕ
   pub inside : rec < length p
   pub holds : P (recAt p rec)
 
--- condition n is met. "15: the tree is not whole."
+-- condition n is met: "15: the tree is not whole", or one that a record meets
 pub data Meets (q : List ℕ) (p : Pattern) : ℕ → Type 0 where
   meets15 : ¬ Whole (rlens p) → Meets q p 15
-  meets16 : Some Bad16 p → Meets q p 16
-  meets17 : Some Bad17 p → Meets q p 17
-  meets18 : Some Bad18 p → Meets q p 18
-  meets19 : Some Bad19 p → Meets q p 19
-  meets20 : Some Bad20 p → Meets q p 20
-  meets25 : Some Bad25 p → Meets q p 25
-  meets32 : Some (Bad32 q) p → Meets q p 32
+  meetsRecord : {n : ℕ} → Some (λ (r : Record). RecordMeets q r n) p → Meets q p n
 
 -- a loaded pattern of which "passing then means meeting none of 15 to 20, 25 and 32"
 abbrev pub Passes : List ℕ → Pattern → Type 0
@@ -170,6 +178,21 @@ pub record FilePasses (f : List ℕ) (a : Allowance) (q : List ℕ) : Type 0 whe
   pub content : Content
   pub loads : loading f tables a ≡ ok content
   pub passes : Passes q (patternOf f content)
+
+-- i): record i of a file passes by itself, under an allowance and a list. What the tree is does not count.
+pub record FileRecordPasses (f : List ℕ) (a : Allowance) (q : List ℕ) (i : ℕ) : Type 0 where
+  pub tables : Nine
+  pub content : Content
+  pub loads : loading f tables a ≡ ok content
+  pub inside : i < length (patternOf f content)
+  pub passes : RecordPasses q (recAt (patternOf f content) i)
+
+-- i): a pattern p was changed to p′ in record i alone: "the number of records, every other record's counts, handlers, map and instruction bytes and this
+-- record's rlen are as before". Where these stand in a file does not count.
+pub record ChangedAlone (i : ℕ) (p p′ : Pattern) : Type 0 where
+  pub number : length p′ ≡ length p
+  pub others : (j : ℕ) → j < length p → ¬ (j ≡ i) → recAt p′ j ≡ recAt p j
+  pub children : recAt p′ i .rlen ≡ recAt p i .rlen
 
 -- Examination. Its answer is a number, 0 where nothing is met.
 
@@ -224,9 +247,12 @@ examineAll q (r ∷ rs) = first (examineRecord q r) (examineAll q rs)
 unfoldable pub examinePattern : List ℕ → Pattern → ℕ
 examinePattern q p = first (refuse 15 (whole (rlens p))) (examineAll q p)
 
--- what was loaded, where it meets none
+-- what was loaded, where its number is 0
+abbrev pub unlessMet : ℕ → Content → Answer Content
+unlessMet n c = cond (eqb n 0) (ok c) (refused n)
+
 unfoldable pub passing : List ℕ → List ℕ → Content → Answer Content
-passing q f c = cond (eqb (examinePattern q (patternOf f c)) 0) (ok c) (refused (examinePattern q (patternOf f c)))
+passing q f c = unlessMet (examinePattern q (patternOf f c)) c
 
 -- "Examination loads the file first."
 unfoldable pub examining : List ℕ → Nine → Allowance → List ℕ → Answer Content
@@ -235,3 +261,17 @@ examining f m a q = bind (loading f m a) (passing q f)
 -- what an examination answers, and what the tables hold afterwards: the rows used, as load does
 unfoldable pub examine : List ℕ → Nine → Allowance → List ℕ → Loaded
 examine f m a q = laid m (examining f m a q)
+
+-- i): "A call loads the file and examines a single record, without 15. A missing record is 22"
+unfoldable pub examineSingle : List ℕ → ℕ → Pattern → ℕ
+examineSingle q i p = cond (ltb i (length p)) (examineRecord q (recAt p i)) 22
+
+unfoldable pub passingSingle : List ℕ → ℕ → List ℕ → Content → Answer Content
+passingSingle q i f c = unlessMet (examineSingle q i (patternOf f c)) c
+
+unfoldable pub examiningSingle : List ℕ → Nine → Allowance → List ℕ → ℕ → Answer Content
+examiningSingle f m a q i = bind (loading f m a) (passingSingle q i f)
+
+-- what that call answers; "a refusal leaves the tables as examination's does"
+unfoldable pub examineOne : List ℕ → Nine → Allowance → List ℕ → ℕ → Loaded
+examineOne f m a q i = laid m (examiningSingle f m a q i)

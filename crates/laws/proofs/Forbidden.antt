@@ -21,7 +21,7 @@ use Rattle.format.specs.Tree.{Whole, whole}
 use Rattle.format.specs.Pattern.{Record, Pattern, patternOf, recAt, blank, rlens, begins}
 use Rattle.format.specs.Line.{rising}
 use Rattle.format.specs.Permitted.{permits, permittedAt, Everything}
-use Rattle.format.specs.Exam.{bounded, follows, Bad16, Bad25, Bad32, Passes, FilePasses, at1718, exam16, exam32, exam1718, exam19, exam20}
+use Rattle.format.specs.Exam.{bounded, follows, Bad16, Bad25, Bad32, RecordPasses, Passes, FilePasses, at1718, exam16, exam32, exam1718, exam19, exam20}
 use Rattle.format.specs.Exam.{examineRecord, examineAll, examinePattern, passing, examining, examine}
 use Rattle.format.specs.Run.{Choice, frame, codeOf, run, choices, kind, Standing, standing, frameTable, following, Followed, follow}
 use Rattle.format.proofs.Answers.{ok-refused, refused-same, refuse-pass, refuse-hit, Refuses, weaker, answered, tested, chained}
@@ -29,7 +29,7 @@ use Rattle.runs.proofs.Tests.{firstAt-hit, firstOf-hit}
 use Rattle.runs.proofs.Tree.{whole-iff}
 use Rattle.runs.proofs.Safe.{begins-zero}
 use Rattle.runs.proofs.Exact.{filled-16, permitting-file}
-use Rattle.runs.proofs.Refusal.{Bad, told-16, told-32, clear-16, clear-32, record-iff, passes-iff, by-record}
+use Rattle.runs.proofs.Refusal.{told-16, told-32, clear-16, clear-32, record-iff, passes-iff, by-record}
 use Rattle.laws.proofs.Exact.{InRecord, by16, by32, by1718, by19, by20, InOrder, by15, byRecord, in-order}
 use Rattle.laws.proofs.Numbers.{Among}
 use Rattle.laws.proofs.Refusals.{load-number}
@@ -92,7 +92,7 @@ pub record Forbids (q : List ℕ) (p : Pattern) : Type 0 where
   pub tree : Whole (rlens p)
   pub rec : ℕ
   pub inside : rec < length p
-  pub before : (j : ℕ) → j < rec → (n : ℕ) → ¬ Bad q (recAt p j) n
+  pub before : (j : ℕ) → j < rec → RecordPasses q (recAt p j)
   pub none-16 : ¬ Bad16 (recAt p rec)
   pub none-25 : ¬ Bad25 (recAt p rec)
   pub holds : Bad32 q (recAt p rec)

@@ -19,8 +19,8 @@ use Rattle.format.specs.Insn.{known, prefix, opcode}
 use Rattle.format.specs.Tree.{whole}
 use Rattle.format.specs.Pattern.{Record, Pattern, patternOf, recAt, rlens}
 use Rattle.format.specs.Permitted.{permits, permittedAt, Further, Everything, everything}
-use Rattle.format.specs.Exam.{readable, Bad32, Some, Passes, FilePasses}
-use Rattle.format.specs.Exam.{Meets, meets15, meets16, meets17, meets18, meets19, meets20, meets25, meets32}
+use Rattle.format.specs.Exam.{readable, Bad32, RecordPasses, Some, Passes, FilePasses}
+use Rattle.format.specs.Exam.{RecordMeets, meets16, meets17, meets18, meets19, meets20, meets25, meets32, Meets, meets15, meetsRecord}
 use Rattle.format.specs.Exam.{exam16, exam32, examineRecord, examineAll, examinePattern, passing, examining, examine}
 use Rattle.format.specs.Run.{Standing, following, Followed, follow}
 use Rattle.format.proofs.Answers.{ok-refused}
@@ -125,26 +125,35 @@ module _ (q l : List ℕ) (same : Same q l) where
 
 -- "Passing then means meeting none of 15 to 20, 25 and 32": passing as it was, and 32
 pub earlier-and-32 : (q : List ℕ) (p : Pattern) → Passes q p ↔ (earlier.Passes p × (¬ Some (Bad32 q) p))
-earlier-and-32 q p = (λ h. (λ n x. h n (now n x), λ s. h 32 (meets32 s)), before)
+earlier-and-32 q p = (λ h. (λ n x. h n (now n x), λ s. h 32 (here s meets32)), before)
   where
+    here : {P : Record → Type 0} {n : ℕ} (s : Some P p) → (P (recAt p (s .rec)) → RecordMeets q (recAt p (s .rec)) n) → Meets q p n
+    here s f = meetsRecord (record { rec = s .rec; inside = s .inside; holds = f (s .holds) })
+
     now : (n : ℕ) → earlier.Meets p n → Meets q p n
     now n (earlier.meets15 x) = meets15 x
-    now n (earlier.meets16 x) = meets16 x
-    now n (earlier.meets17 x) = meets17 x
-    now n (earlier.meets18 x) = meets18 x
-    now n (earlier.meets19 x) = meets19 x
-    now n (earlier.meets20 x) = meets20 x
-    now n (earlier.meets25 x) = meets25 x
+    now n (earlier.meets16 x) = here x meets16
+    now n (earlier.meets17 x) = here x meets17
+    now n (earlier.meets18 x) = here x meets18
+    now n (earlier.meets19 x) = here x meets19
+    now n (earlier.meets20 x) = here x meets20
+    now n (earlier.meets25 x) = here x meets25
+
+    at : {P : Record → Type 0} (i : ℕ) → i < length p → P (recAt p i) → Some P p
+    at i l x = record { rec = i; inside = l; holds = x }
+
+    by : earlier.Passes p × (¬ Some (Bad32 q) p) → (i : ℕ) → i < length p → RecordPasses q (recAt p i)
+    by h i l n (meets16 x) = h .0 16 (earlier.meets16 (at i l x))
+    by h i l n (meets17 x) = h .0 17 (earlier.meets17 (at i l x))
+    by h i l n (meets18 x) = h .0 18 (earlier.meets18 (at i l x))
+    by h i l n (meets19 x) = h .0 19 (earlier.meets19 (at i l x))
+    by h i l n (meets20 x) = h .0 20 (earlier.meets20 (at i l x))
+    by h i l n (meets25 x) = h .0 25 (earlier.meets25 (at i l x))
+    by h i l n (meets32 x) = h .1 (at i l x)
 
     before : earlier.Passes p × (¬ Some (Bad32 q) p) → (n : ℕ) → Meets q p n → ⊥
     before h n (meets15 x) = h .0 15 (earlier.meets15 x)
-    before h n (meets16 x) = h .0 16 (earlier.meets16 x)
-    before h n (meets17 x) = h .0 17 (earlier.meets17 x)
-    before h n (meets18 x) = h .0 18 (earlier.meets18 x)
-    before h n (meets19 x) = h .0 19 (earlier.meets19 x)
-    before h n (meets20 x) = h .0 20 (earlier.meets20 x)
-    before h n (meets25 x) = h .0 25 (earlier.meets25 x)
-    before h n (meets32 x) = h .1 x
+    before h n (meetsRecord s) = by h (s .rec) (s .inside) n (s .holds)
 
 -- "Permitting further opcodes": what l forbids q forbids
 module _ (q l : List ℕ) (more : Further q l) where

@@ -19,8 +19,9 @@ use Rattle.format.specs.File.{Content, nothing, fileReading}
 use Rattle.format.specs.Load.{Nine, Words, tablesOf, used, fits, ending, loadingWithin, loading, wordsOf, laid, load, recordsOf}
 use Rattle.format.specs.Insn.{kind, known, row, width, fetchAs, fetch}
 use Rattle.format.specs.Lookup as look
-use Rattle.format.specs.Pattern.{Pattern, patternOf}
-use Rattle.format.specs.Exam.{Meets, meets15, meets16, meets17, meets18, meets19, meets20, meets25, meets32, examinePattern, passing, examining, examine}
+use Rattle.format.specs.Pattern.{Record, Pattern, patternOf, recAt}
+use Rattle.format.specs.Exam.{RecordMeets, meets16, meets17, meets18, meets19, meets20, meets25, meets32, Meets, meets15, meetsRecord}
+use Rattle.format.specs.Exam.{examinePattern, passing, examining, examine}
 use Rattle.format.specs.Run.{kind as due-kind, choices, following, Followed, follow, laidFrames, frameTable}
 use Rattle.format.proofs.Answers.{ok-refused, either, Refuses, NotZero, weaker, answered, tested, chained}
 use Rattle.runs.proofs.Refusal.{refusal-met}
@@ -64,15 +65,18 @@ laid-refuses m R (ok c) r = tt
 laid-refuses m R (refused e) r = r
 
 -- a condition's number
+record-among : (q : List ℕ) (r : Record) (n : ℕ) → RecordMeets q r n → Among conditionNumbers n
+record-among q r n (meets16 x) = tt
+record-among q r n (meets17 x) = tt
+record-among q r n (meets18 x) = tt
+record-among q r n (meets19 x) = tt
+record-among q r n (meets20 x) = tt
+record-among q r n (meets25 x) = tt
+record-among q r n (meets32 x) = tt
+
 meets-among : (q : List ℕ) (p : Pattern) (n : ℕ) → Meets q p n → Among conditionNumbers n
 meets-among q p n (meets15 x) = tt
-meets-among q p n (meets16 x) = tt
-meets-among q p n (meets17 x) = tt
-meets-among q p n (meets18 x) = tt
-meets-among q p n (meets19 x) = tt
-meets-among q p n (meets20 x) = tt
-meets-among q p n (meets25 x) = tt
-meets-among q p n (meets32 x) = tt
+meets-among q p n (meetsRecord s) = record-among q (recAt p (s .rec)) n (s .holds)
 
 module _ (f : List ℕ) where
   loading-refuses : (m : Nine) (a : Allowance) → Refuses (Among loadNumbers) (loading f m a)

@@ -18,7 +18,8 @@ use Rattle.format.specs.Exam.{leads, hasNext, hasTarget, stray, readable, bound
 use Rattle.format.specs.Exam.{Bad16, Bad17, Bad18, Bad19, Bad20, Bad25, Bad32, Some}
 use Rattle.format.specs.Bytes.{refuse, first}
 use Rattle.format.specs.Permitted.{permittedAt}
-use Rattle.format.specs.Exam.{Meets, meets15, meets16, meets17, meets18, meets19, meets20, meets25, meets32, Passes, firstAt, at16, at32, at1718}
+use Rattle.format.specs.Exam.{RecordMeets, meets16, meets17, meets18, meets19, meets20, meets25, meets32, RecordPasses, Meets, meets15, meetsRecord, Passes}
+use Rattle.format.specs.Exam.{firstAt, at16, at32, at1718}
 use Rattle.format.specs.Exam.{exam16, exam32, exam1718, exam19, exam20, examineRecord, examineAll, examinePattern}
 use Rattle.runs.proofs.Registers.{none-high, some-high}
 use Rattle.format.proofs.Table.{both}
@@ -58,39 +59,20 @@ module _ (c : List ℕ) (o : ℕ) where
 
 -- From 0: none is met.
 
--- condition n is met by a record
-pub data Bad (q : List ℕ) (r : Record) : ℕ → Type 0 where
-  bad16 : Bad16 r → Bad q r 16
-  bad17 : Bad17 r → Bad q r 17
-  bad18 : Bad18 r → Bad q r 18
-  bad19 : Bad19 r → Bad q r 19
-  bad20 : Bad20 r → Bad q r 20
-  bad25 : Bad25 r → Bad q r 25
-  bad32 : Bad32 q r → Bad q r 32
-
-no-bad : (q : List ℕ) (r : Record) → Good r → Permitting q r → (n : ℕ) → Bad q r n → ⊥
-no-bad q r G A n (bad16 (inl e)) = omega (arith, G .filled)
-no-bad q r G A n (bad16 (inr b)) = T-not (readable (r .code) (b .at)) (b .fails) (G .reads (b .at) (b .starts))
-no-bad q r G A n (bad17 b) = none-high r (b .at) (G .fit (b .at) (b .starts)) (b .high)
-no-bad q r G A n (bad18 b) = not-lost (r .code) (b .at) (G .go (b .at) (b .starts)) (b .lost)
-no-bad q r G A n (bad19 b) = T-not (begins (r .code) (getD (r .handlers) (b .h) 0)) (b .none-begins) (G .caught (b .h) (b .given))
-no-bad q r G A n (bad20 b) = omega (arith, b .falls, mono (r .lines) (G .rise) (b .i) (suc (b .i)) (omega arith) (b .given))
-no-bad q r G A n (bad25 b) = T-not (stray (r .code) (b .at)) (G .paired (b .at) (b .starts)) (b .alone)
-no-bad q r G A n (bad32 b) = T-not (permittedAt q (r .code) (b .at)) (b .forbidden) (A (b .at) (b .starts))
+no-bad : (q : List ℕ) (r : Record) → Good r → Permitting q r → (n : ℕ) → RecordMeets q r n → ⊥
+no-bad q r G A n (meets16 (inl e)) = omega (arith, G .filled)
+no-bad q r G A n (meets16 (inr b)) = T-not (readable (r .code) (b .at)) (b .fails) (G .reads (b .at) (b .starts))
+no-bad q r G A n (meets17 b) = none-high r (b .at) (G .fit (b .at) (b .starts)) (b .high)
+no-bad q r G A n (meets18 b) = not-lost (r .code) (b .at) (G .go (b .at) (b .starts)) (b .lost)
+no-bad q r G A n (meets19 b) = T-not (begins (r .code) (getD (r .handlers) (b .h) 0)) (b .none-begins) (G .caught (b .h) (b .given))
+no-bad q r G A n (meets20 b) = omega (arith, b .falls, mono (r .lines) (G .rise) (b .i) (suc (b .i)) (omega arith) (b .given))
+no-bad q r G A n (meets25 b) = T-not (stray (r .code) (b .at)) (G .paired (b .at) (b .starts)) (b .alone)
+no-bad q r G A n (meets32 b) = T-not (permittedAt q (r .code) (b .at)) (b .forbidden) (A (b .at) (b .starts))
 
 module _ (q : List ℕ) (F : Pattern) (G : GoodFile F) (A : PermittingFile q F) where
-  none-in : (n : ℕ) → Some (λ (r : Record). Bad q r n) F → ⊥
-  none-in n s = no-bad q (recAt F (s .rec)) (G .each-rec (s .rec) (s .inside)) (A (s .rec) (s .inside)) n (s .holds)
-
   no-meet : (n : ℕ) → Meets q F n → ⊥
   no-meet n (meets15 w) = w (whole-iff (rlens F) .0 (G .tree))
-  no-meet n (meets16 s) = none-in n (record { rec = s .rec; inside = s .inside; holds = bad16 (s .holds) })
-  no-meet n (meets17 s) = none-in n (record { rec = s .rec; inside = s .inside; holds = bad17 (s .holds) })
-  no-meet n (meets18 s) = none-in n (record { rec = s .rec; inside = s .inside; holds = bad18 (s .holds) })
-  no-meet n (meets19 s) = none-in n (record { rec = s .rec; inside = s .inside; holds = bad19 (s .holds) })
-  no-meet n (meets20 s) = none-in n (record { rec = s .rec; inside = s .inside; holds = bad20 (s .holds) })
-  no-meet n (meets25 s) = none-in n (record { rec = s .rec; inside = s .inside; holds = bad25 (s .holds) })
-  no-meet n (meets32 s) = none-in n (record { rec = s .rec; inside = s .inside; holds = bad32 (s .holds) })
+  no-meet n (meetsRecord s) = no-bad q (recAt F (s .rec)) (G .each-rec (s .rec) (s .inside)) (A (s .rec) (s .inside)) n (s .holds)
 
 pub pass-sound : (q : List ℕ) (F : Pattern) → examinePattern q F ≡ 0 → Passes q F
 pass-sound q F e n = no-meet q F (good-file q F e) (permitting-file q F e) n
@@ -161,86 +143,77 @@ clear-32 q r = (λ e b. T-not (permittedAt q (r .code) (b .at)) (b .forbidden) (
     go h (suc k) e = absurd (h (told-32 q r k e .1))
 
 module _ (q : List ℕ) (r : Record) (n : ℕ) where
-  same : {k : ℕ} → k ≡ suc n → Bad q r k → Bad q r (suc n)
-  same e b = subst (λ (k : ℕ). Bad q r k) e b
+  same : {k : ℕ} → k ≡ suc n → RecordMeets q r k → RecordMeets q r (suc n)
+  same e b = subst (λ (k : ℕ). RecordMeets q r k) e b
 
-  hit16 : exam16 (r .code) ≡ suc n → Bad q r (suc n)
-  hit16 e = elim (told-16 r n e) [ inl h ↦ same (h .0) (bad16 (h .1)) | inr h ↦ same (h .0) (bad25 (h .1)) ]
+  hit16 : exam16 (r .code) ≡ suc n → RecordMeets q r (suc n)
+  hit16 e = elim (told-16 r n e) [ inl h ↦ same (h .0) (meets16 (h .1)) | inr h ↦ same (h .0) (meets25 (h .1)) ]
 
-  hit32 : exam32 q (r .code) ≡ suc n → Bad q r (suc n)
-  hit32 e = let h = told-32 q r n e in same (h .0) (bad32 (h .1))
+  hit32 : exam32 q (r .code) ≡ suc n → RecordMeets q r (suc n)
+  hit32 e = let h = told-32 q r n e in same (h .0) (meets32 (h .1))
 
-  hit1718 : exam1718 r ≡ suc n → Bad q r (suc n)
+  hit1718 : exam1718 r ≡ suc n → RecordMeets q r (suc n)
   unfolding exam1718
   hit1718 e = at (firstAt-hit (at1718 r) (r .code) 0 0 n e)
     where
-      go : (o : ℕ) → T (begins (r .code) o) → (refuse 17 (bounded r o) ≡ suc n) ⊎ (refuse 18 (follows (r .code) o) ≡ suc n) → Bad q r (suc n)
-      go o t (inl e) = let h = refuse-hit 17 n (bounded r o) e in same (h .0) (bad17 (record { at = o; starts = t; high = some-high r o (h .1) }))
-      go o t (inr e) = let h = refuse-hit 18 n (follows (r .code) o) e in same (h .0) (bad18 (record { at = o; starts = t; lost = lost-of (r .code) o (h .1) }))
+      go : (o : ℕ) → T (begins (r .code) o) → (refuse 17 (bounded r o) ≡ suc n) ⊎ (refuse 18 (follows (r .code) o) ≡ suc n) → RecordMeets q r (suc n)
+      go o t (inl e) = let h = refuse-hit 17 n (bounded r o) e in same (h .0) (meets17 (record { at = o; starts = t; high = some-high r o (h .1) }))
+      go o t (inr e) = let h = refuse-hit 18 n (follows (r .code) o) e in same (h .0) (meets18 (record { at = o; starts = t; lost = lost-of (r .code) o (h .1) }))
 
-      at : Hit (at1718 r) (r .code) 0 0 (suc n) → Bad q r (suc n)
+      at : Hit (at1718 r) (r .code) 0 0 (suc n) → RecordMeets q r (suc n)
       at i = go (i .at) (i .starts) (first-hit (refuse 17 (bounded r (i .at))) (refuse 18 (follows (r .code) (i .at))) n (rw zero-add at (i .gives)))
 
-  hit19 : exam19 r ≡ suc n → Bad q r (suc n)
+  hit19 : exam19 r ≡ suc n → RecordMeets q r (suc n)
   unfolding exam19
   hit19 e =
       let i = firstOf-hit (λ (t : ℕ). refuse 19 (begins (r .code) t)) (r .handlers) n e in
       let h = refuse-hit 19 n (begins (r .code) (getD (r .handlers) (i .at) 0)) (i .gives) in
-      same (h .0) (bad19 (record { h = i .at; given = i .inside; none-begins = h .1 }))
+      same (h .0) (meets19 (record { h = i .at; given = i .inside; none-begins = h .1 }))
 
-  hit20 : exam20 r ≡ suc n → Bad q r (suc n)
+  hit20 : exam20 r ≡ suc n → RecordMeets q r (suc n)
   unfolding exam20
   hit20 e =
       let h = refuse-hit 20 n (rising (r .lines)) e in
       let w = falls-at (r .lines) (h .1) in
-      same (h .0) (bad20 (record { i = w .0; given = w .1; falls = w .2 }))
+      same (h .0) (meets20 (record { i = w .0; given = w .1; falls = w .2 }))
 
-  hit-rec : examineRecord q r ≡ suc n → Bad q r (suc n)
+  hit-rec : examineRecord q r ≡ suc n → RecordMeets q r (suc n)
   unfolding examineRecord
   hit-rec e = a (first-hit (exam16 (r .code)) (first (exam32 q (r .code)) (first (exam1718 r) (first (exam19 r) (exam20 r)))) n e)
     where
-      d : (exam19 r ≡ suc n) ⊎ (exam20 r ≡ suc n) → Bad q r (suc n)
+      d : (exam19 r ≡ suc n) ⊎ (exam20 r ≡ suc n) → RecordMeets q r (suc n)
       d (inl e) = hit19 e
       d (inr e) = hit20 e
 
-      c : (exam1718 r ≡ suc n) ⊎ (first (exam19 r) (exam20 r) ≡ suc n) → Bad q r (suc n)
+      c : (exam1718 r ≡ suc n) ⊎ (first (exam19 r) (exam20 r) ≡ suc n) → RecordMeets q r (suc n)
       c (inl e) = hit1718 e
       c (inr e) = d (first-hit (exam19 r) (exam20 r) n e)
 
-      b : (exam32 q (r .code) ≡ suc n) ⊎ (first (exam1718 r) (first (exam19 r) (exam20 r)) ≡ suc n) → Bad q r (suc n)
+      b : (exam32 q (r .code) ≡ suc n) ⊎ (first (exam1718 r) (first (exam19 r) (exam20 r)) ≡ suc n) → RecordMeets q r (suc n)
       b (inl e) = hit32 e
       b (inr e) = c (first-hit (exam1718 r) (first (exam19 r) (exam20 r)) n e)
 
-      a : (exam16 (r .code) ≡ suc n) ⊎ (first (exam32 q (r .code)) (first (exam1718 r) (first (exam19 r) (exam20 r))) ≡ suc n) → Bad q r (suc n)
+      a : (exam16 (r .code) ≡ suc n) ⊎ (first (exam32 q (r .code)) (first (exam1718 r) (first (exam19 r) (exam20 r))) ≡ suc n) → RecordMeets q r (suc n)
       a (inl e) = hit16 e
       a (inr e) = b (first-hit (exam32 q (r .code)) (first (exam1718 r) (first (exam19 r) (exam20 r))) n e)
 
 -- A record's examination answers 0 exactly where the record meets none.
-pub record-iff : (q : List ℕ) (r : Record) → (examineRecord q r ≡ 0) ↔ ((n : ℕ) → ¬ Bad q r n)
+pub record-iff : (q : List ℕ) (r : Record) → (examineRecord q r ≡ 0) ↔ RecordPasses q r
 record-iff q r = (λ e. no-bad q r (good q r e) (permitting q r e), λ h. go h (examineRecord q r) refl)
   where
-    go : ((n : ℕ) → ¬ Bad q r n) → (k : ℕ) → examineRecord q r ≡ k → examineRecord q r ≡ 0
+    go : RecordPasses q r → (k : ℕ) → examineRecord q r ≡ k → examineRecord q r ≡ 0
     go h zero e = e
     go h (suc k) e = absurd (h (suc k) (hit-rec q r k e))
 
-hit-all : (q : List ℕ) (rs : List Record) (n : ℕ) → examineAll q rs ≡ suc n → Some (λ (r : Record). Bad q r (suc n)) rs
+hit-all : (q : List ℕ) (rs : List Record) (n : ℕ) → examineAll q rs ≡ suc n → Some (λ (r : Record). RecordMeets q r (suc n)) rs
 unfolding examineAll
 hit-all q [] n e = absurd (omega arith)
 hit-all q (r ∷ rs) n e = go (first-hit (examineRecord q r) (examineAll q rs) n e) (hit-all q rs n)
   where
-    go : (examineRecord q r ≡ suc n) ⊎ (examineAll q rs ≡ suc n) → (examineAll q rs ≡ suc n → Some (λ (r : Record). Bad q r (suc n)) rs)
-        → Some (λ (r : Record). Bad q r (suc n)) (r ∷ rs)
+    go : (examineRecord q r ≡ suc n) ⊎ (examineAll q rs ≡ suc n) → (examineAll q rs ≡ suc n → Some (λ (r : Record). RecordMeets q r (suc n)) rs)
+        → Some (λ (r : Record). RecordMeets q r (suc n)) (r ∷ rs)
     go (inl e) ih = record { rec = 0; inside = omega arith; holds = hit-rec q r n e }
     go (inr e) ih = let w = ih e in record { rec = suc (w .rec); inside = suc-le-suc (w .inside); holds = w .holds }
-
-some-meets : (q : List ℕ) (F : Pattern) (i n : ℕ) → i < length F → Bad q (recAt F i) n → Meets q F n
-some-meets q F i n h (bad16 b) = meets16 (record { rec = i; inside = h; holds = b })
-some-meets q F i n h (bad17 b) = meets17 (record { rec = i; inside = h; holds = b })
-some-meets q F i n h (bad18 b) = meets18 (record { rec = i; inside = h; holds = b })
-some-meets q F i n h (bad19 b) = meets19 (record { rec = i; inside = h; holds = b })
-some-meets q F i n h (bad20 b) = meets20 (record { rec = i; inside = h; holds = b })
-some-meets q F i n h (bad25 b) = meets25 (record { rec = i; inside = h; holds = b })
-some-meets q F i n h (bad32 b) = meets32 (record { rec = i; inside = h; holds = b })
 
 pub refusal-met : (q : List ℕ) (F : Pattern) (n : ℕ) → examinePattern q F ≡ suc n → Meets q F (suc n)
 unfolding examinePattern
@@ -250,7 +223,7 @@ refusal-met q F n e = go (first-hit (refuse 15 (whole (rlens F))) (examineAll q 
     go (inl e) =
         let h = refuse-hit 15 n (whole (rlens F)) e in
         subst (λ (k : ℕ). Meets q F k) (h .0) (meets15 (λ w. T-not (whole (rlens F)) (h .1) (whole-iff (rlens F) .1 w)))
-    go (inr e) = let w = hit-all q F n e in some-meets q F (w .rec) (suc n) (w .inside) (w .holds)
+    go (inr e) = meetsRecord (hit-all q F n e)
 
 pub passes-iff : (q : List ℕ) (F : Pattern) → (examinePattern q F ≡ 0) ↔ Passes q F
 passes-iff q F = (pass-sound q F, λ p. go p (examinePattern q F) refl)
