@@ -21,7 +21,7 @@ use Rattle.runs.proofs.Lists.{same-permits}
 use Rattle.flags.specs.Flags.{bare}
 use Rattle.examine_list.specs.Full.{Written}
 use Rattle.examine_list.proofs.Full.{written-permits}
-use Rattle.exam.specs.View.{recordAt, patternAt, rlensAt}
+use Rattle.exam.specs.View.{recordAt, recordsBetween, patternAt, rlensAt}
 use Rattle.exam.specs.Part.{examinePart}
 use Rattle.scan.proofs.First.{first-none, first-some, first-assoc}
 
@@ -118,28 +118,32 @@ module _ {recs : List ℕ} {n : ℕ} where
   laid-end {i} {p} h g = layout-nil p ∙ sym (g .so ∙ rw (rows-end (rlenAt recs) i n h))
 
 -- the records in turn, at the record r
-pub record Passed (q f recs hs ls : List ℕ) (n r : ℕ) : Type 0 where
-  pub so : examineAll q (patternAt f recs hs ls n) ≡ examineAll q (rowsFrom (recordAt f recs hs ls) r (n - r))
+pub record Passed (q f recs hs ls : List ℕ) (from to r : ℕ) : Type 0 where
+  pub so : examineAll q (recordsBetween f recs hs ls from to) ≡ examineAll q (recordsBetween f recs hs ls r to)
 
-module _ {q f recs hs ls : List ℕ} {n : ℕ} where
-  pub passed-start : Passed q f recs hs ls n 0
-  passed-start = record { so = ap (examineAll q) (rows-start (recordAt f recs hs ls) 0 n n (omega arith)) }
+module _ {q f recs hs ls : List ℕ} {from to : ℕ} where
+  pub passed-start : Passed q f recs hs ls from to from
+  passed-start = record { so = refl }
 
-  module _ {r : ℕ} (h : r < n) (g : Passed q f recs hs ls n r) where
-    turned : examineAll q (patternAt f recs hs ls n)
-        ≡ first (examineRecord q (recordAt f recs hs ls r)) (examineAll q (rowsFrom (recordAt f recs hs ls) (r + 1) (n - (r + 1))))
+  module _ {r : ℕ} (h : r < to) (g : Passed q f recs hs ls from to r) where
+    turned : examineAll q (recordsBetween f recs hs ls from to)
+        ≡ first (examineRecord q (recordAt f recs hs ls r)) (examineAll q (recordsBetween f recs hs ls (r + 1) to))
     unfolding examineAll
-    turned = g .so ∙ rw (rows-turn (recordAt f recs hs ls) r n h)
+    turned = g .so ∙ rw (rows-turn (recordAt f recs hs ls) r to h)
 
-    pub passed-turn : {x : ℕ} → x ≡ examineRecord q (recordAt f recs hs ls r) → x ≡ 0 → Passed q f recs hs ls n (r + 1)
+    pub passed-turn : {x : ℕ} → x ≡ examineRecord q (recordAt f recs hs ls r) → x ≡ 0 → Passed q f recs hs ls from to (r + 1)
     passed-turn e z = record { so = turned ∙ first-none (examineRecord q (recordAt f recs hs ls r)) _ (sym e ∙ z) }
 
-    pub passed-stop : {x : ℕ} → x ≡ examineRecord q (recordAt f recs hs ls r) → (x ≡ 0 → ⊥) → x ≡ examineAll q (patternAt f recs hs ls n)
+    pub passed-stop : {x : ℕ} → x ≡ examineRecord q (recordAt f recs hs ls r) → (x ≡ 0 → ⊥) → x ≡ examineAll q (recordsBetween f recs hs ls from to)
     passed-stop {x} e z = rw (turned, ← e) (first-some x _ z)
 
-  pub passed-end : {r : ℕ} → n ≤ r → Passed q f recs hs ls n r → 0 ≡ examineAll q (patternAt f recs hs ls n)
+  pub passed-end : {r : ℕ} → to ≤ r → Passed q f recs hs ls from to r → 0 ≡ examineAll q (recordsBetween f recs hs ls from to)
   unfolding examineAll
-  passed-end {r} h g = sym (g .so ∙ rw (rows-end (recordAt f recs hs ls) r n h))
+  passed-end {r} h g = sym (g .so ∙ rw (rows-end (recordAt f recs hs ls) r to h))
+
+-- by a list, and by the list in full
+pub full-same : {q w : List ℕ} (p : List Record) → Written q w → examineAll w p ≡ examineAll q p
+full-same {q} {w} p g = same-permits w q (written-permits g) p
 
 -- 15 before the records
 module _ (f recs hs ls : List ℕ) (n : ℕ) where
@@ -150,8 +154,6 @@ module _ (f recs hs ls : List ℕ) (n : ℕ) where
   unfolding examinePattern
   tree-bad q e = rw (rlens-are, e)
 
-  -- by a list, and by the list in full
-  pub tree-good : {q w : List ℕ} → Written q w → whole (rlensAt recs n) ≡ true
-      → examineAll w (patternAt f recs hs ls n) ≡ examinePattern q (patternAt f recs hs ls n)
+  pub tree-good : (q : List ℕ) → whole (rlensAt recs n) ≡ true → examineAll q (recordsBetween f recs hs ls 0 n) ≡ examinePattern q (patternAt f recs hs ls n)
   unfolding examinePattern
-  tree-good {q} {w} g e = rw (rlens-are, e) (same-permits w q (written-permits g) (patternAt f recs hs ls n))
+  tree-good q e = rw (rlens-are, e) (ap (examineAll q) (sym (rows-start (recordAt f recs hs ls) 0 n n (omega arith))))

@@ -1,6 +1,6 @@
 -- The pattern that lent tables hold, read off the file's bytes and the words. Total on any tables: a word beyond a table is 0.
 -- Assumes nothing.
-use Prim.Native.Nat.{ℕ, _+_, _*_, _≤_, _<_}
+use Prim.Native.Nat.{ℕ, _+_, _-_, _*_, _≤_, _<_}
 use mathlib.Core.Path.{_≡_}
 use mathlib.Core.List.{List}
 use lib.ListN.{length, take, drop}
@@ -37,6 +37,10 @@ recordAt f recs hs ls r =
       handlers = targets hs (recordWord recs r 7) (recordWord recs r 8);
       lines = entries ls (recordWord recs r 17) (recordWord recs r 18);
     }
+
+-- the records from one on, up to but not with another
+abbrev pub recordsBetween : List ℕ → List ℕ → List ℕ → List ℕ → ℕ → ℕ → Pattern
+recordsBetween f recs hs ls from to = rowsFrom (recordAt f recs hs ls) from (to - from)
 
 -- the first n records
 abbrev pub patternAt : List ℕ → List ℕ → List ℕ → List ℕ → ℕ → Pattern

@@ -14,7 +14,7 @@ ghost use Rattle.format.specs.Exam.{examineRecord, examineAll, examinePattern};
 ghost use Rattle.format.specs.Rows.{recordWidth};
 ghost use Rattle.flags.specs.Flags.{Limits, Marked};
 ghost use Rattle.examine_list.specs.Full.{Full};
-ghost use Rattle.exam.specs.View.{targets, entries, recordAt, patternAt, rlensAt, RowFits, Fits};
+ghost use Rattle.exam.specs.View.{targets, entries, recordAt, recordsBetween, patternAt, rlensAt, RowFits, Fits};
 ghost use Rattle.exam.specs.Part.{exam19Of, examinePart};
 
 fn long(x: u32) -> usize
@@ -168,23 +168,24 @@ pub fn whole_tree(records: &[u32], n: usize) -> bool
     p == 0
 }
 
-// Examination of the first `n` records in turn, by a list in full.
+// Examination of the records from one on, up to but not with another, in turn, by a list in full.
 fn examine_all(
     file: &[u8],
     records: &[u32],
     handlers: &[u32],
     lines: &[u32],
-    n: usize,
+    from: usize,
+    to: usize,
     flags: &mut [u8],
     permitted: &[u8],
 ) -> u8
-    requires { ⌜ Fits (now file) (now records) (now handlers) (now lines) n ⌝ }
+    requires { ⌜ Fits (now file) (now records) (now handlers) (now lines) to ⌝ }
     requires { ⌜ length (now file) ≤ length (now flags) ⌝ }
     requires { ⌜ Full (now permitted) ⌝ }
-    ensures { λ x. ⌜ x ≡ examineAll (now (permitted .entry)) (patternAt (now (file .entry)) (now (records .entry)) (now (handlers .entry)) (now (lines .entry)) n) ⌝ }
+    ensures { λ x. ⌜ x ≡ examineAll (now (permitted .entry)) (recordsBetween (now (file .entry)) (now (records .entry)) (now (handlers .entry)) (now (lines .entry)) from to) ⌝ }
 {
-    let mut r: usize = 0;
-    while r < n {
+    let mut r = from;
+    while r < to {
         let a = examine_record(file, records, handlers, lines, flags, r, permitted);
         if a != 0 {
             return a;
@@ -192,6 +193,29 @@ fn examine_all(
         r += 1;
     }
     0
+}
+
+// The same by any list: the number of the first condition of 16 to 20, 25 and 32 that one of them meets, 0 where each passes by itself.
+pub fn examine_records(
+    file: &[u8],
+    records: &[u32],
+    handlers: &[u32],
+    lines: &[u32],
+    from: usize,
+    to: usize,
+    permitted: &[u8],
+) -> u8
+    requires { ⌜ Fits (now file) (now records) (now handlers) (now lines) to ⌝ }
+    ensures { λ x. ⌜ x ≡ examineAll (now (permitted .entry)) (recordsBetween (now (file .entry)) (now (records .entry)) (now (handlers .entry)) (now (lines .entry)) from to) ⌝ }
+{
+    let mut full: [u8; FULL] = [0; FULL];
+    write_full(permitted, &mut full);
+    if file.len() <= 4096 {
+        let mut few: [u8; 4096] = [0; 4096];
+        return examine_all(file, records, handlers, lines, from, to, &mut few, &full);
+    }
+    let mut flags: [u8; 65536] = [0; 65536];
+    examine_all(file, records, handlers, lines, from, to, &mut flags, &full)
 }
 
 // Examination of the first `n` records: the number of the first condition of 15 to 20, 25 and 32 that is met, 0 where the pattern passes.
@@ -209,12 +233,5 @@ pub fn examine_tables(
     if !whole_tree(records, n) {
         return 15;
     }
-    let mut full: [u8; FULL] = [0; FULL];
-    write_full(permitted, &mut full);
-    if file.len() <= 4096 {
-        let mut few: [u8; 4096] = [0; 4096];
-        return examine_all(file, records, handlers, lines, n, &mut few, &full);
-    }
-    let mut flags: [u8; 65536] = [0; 65536];
-    examine_all(file, records, handlers, lines, n, &mut flags, &full)
+    examine_records(file, records, handlers, lines, 0, n, permitted)
 }

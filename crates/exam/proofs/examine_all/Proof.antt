@@ -10,10 +10,10 @@ use Rattle.exam.proofs.examine_all.Statement.{statement}
 use Rattle.exam.proofs.examine_all.Tie as tie
 
 abbrev Inv-loop : tie.InvT-loop
-Inv-loop file records handlers lines n flags₀ permitted r₀ flags r = (length flags ≡ length flags₀) × Passed permitted file records handlers lines n r
+Inv-loop file records handlers lines from to flags₀ permitted r₀ flags r = (length flags ≡ length flags₀) × Passed permitted file records handlers lines from to r
 
 abbrev μ-loop : tie.MeasureT-loop
-μ-loop file records handlers lines n flags₀ permitted r₀ flags r = n - r
+μ-loop file records handlers lines from to flags₀ permitted r₀ flags r = to - r
 
 loop-holds : tie.Need-loop-holds Inv-loop μ-loop
 loop-holds c = (refl, passed-start)

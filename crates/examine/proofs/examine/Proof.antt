@@ -4,7 +4,7 @@ use mathlib.Core.Path.{ap, _∙_}
 use Rattle.format.specs.Load.{laid}
 use Rattle.format.specs.Exam as format
 use Rattle.rite.specs.Answers.{words, sizes, allowanceOf}
-use Rattle.examine.proofs.Passing.{examining-is}
+use Rattle.examine.proofs.Cleared.{whole-is}
 use borrow.Author.Needs.{needs}
 use Rattle.examine.proofs.examine.Statement.{statement}
 use Rattle.examine.proofs.examine.Tie as tie
@@ -13,12 +13,10 @@ returns : tie.Need-returns
 unfolding format.examine
 returns c =
     let passing = c .before .before .before .before .before .before .before .before .before .before .before .before .before .before .before .before .before .before in
-    let mid1 = passing .before .before .before .before .before .before .before .before .before .before .before .before .before .before .before .before .before .before .before .before in
-    let start = mid1 .before in
+    let start = passing .before .before .before .before .before .before .before .before .before .before .before .before .before .before .before .before .before .before .before .before .before in
     let a = start .args in
     let lent = words (a .records .now) (a .handlers .now) (a .pool .now) (a .symbols .now) (a .strings .now) (a .names .now) (a .filenames .now) (a .files .now) (a .lines .now) in
-    let allow = allowanceOf (a .a) in
-    passing .load-passing .ensures ∙ ap (laid (sizes lent)) (examining-is (a .f .now) (sizes lent) allow (a .permitted .now))
+    passing .load-passing .ensures ∙ ap (laid (sizes lent)) (whole-is (a .f .now) (sizes lent) (allowanceOf (a .a)) (a .permitted .now))
 
 pub examine-spec : {M : Type 1} → statement M
 examine-spec =
