@@ -23,8 +23,13 @@ use Rattle.file.specs.declared.Loaded.{Loaded}
 use Rattle.file.specs.declared.Loaded.the-variants as loaded
 use Rattle.rite.specs.Answers.{countsOf, loadedOf}
 use Rattle.run.specs.Follow.{out, followOut}
-use Rattle.examine.specs.Passing.{passingIn}
-use Rattle.examine.proofs.Passing.{Given, fits-given, pattern-given, count-is}
+use Rattle.examine_asked.specs.declared.Asked.the-variants as asked
+use Rattle.examine_kept.specs.Kept.{askedIn}
+use Rattle.examine_kept.proofs.Keeping.{Given, fits-given, pattern-given, count-is}
+
+-- a file that is loaded, has at most so many records, and passes
+abbrev passingIn : List ℕ → Nine → Allowance → List ℕ → ℕ → Answer Content
+passingIn f m a q rows = askedIn (asked.Whole rows) f m a q
 
 -- the run behind a file that is loaded and passes
 abbrev ran : List ℕ → List ℕ → Content → Answer format.Ran

@@ -1,5 +1,6 @@
 // The run of a file along a list of choices: it is loaded and examined, then followed.
 use examine::load_passing;
+use examine_asked::Asked;
 use rite::Allowance;
 use rite::Loaded;
 use rows::clear;
@@ -47,7 +48,7 @@ pub fn follow(
         filenames,
         files,
         lines,
-        frames.len() / 2,
+        Asked::Whole(frames.len() / 2),
         a,
         permitted,
     ) {
