@@ -11,12 +11,12 @@ use mathlib.Core.List.{List}
 use lib.Dec.{T, leb, leb·zero, leb→le}
 use lib.ListN.{length}
 use borrow.Author.Tests.{leb-true, leb-false, le-leb}
-use Rattle.format.specs.Bytes.{Answer, ok, refused}
+use Rattle.format.specs.Bytes.{Answer, ok, refused, bind}
 use Rattle.format.specs.Rows.{recordWidth}
 use Rattle.format.specs.Allowance.{Allowance, allowance, desktop, least, granted, Within}
 use Rattle.format.specs.File.{Content, nothing, fileReading}
-use Rattle.format.specs.Load.{Nine, Counts, recordsOf, tablesOf, used, fits, ending, loadingWithin, loading, load}
-use Rattle.format.specs.Exam.{FilePasses, examining, examine}
+use Rattle.format.specs.Load.{Nine, Counts, recordsOf, tablesOf, used, fits, ending, loadingWithin, loading, laid, load}
+use Rattle.format.specs.Exam.{FilePasses, FileRecordPasses, passing, examining, examine, passingSingle, examiningSingle, examineOne}
 use Rattle.format.specs.Run.{following, follow}
 use Rattle.format.proofs.Answers.{ok-refused}
 use Rattle.format.proofs.Least.{least-iff, least-below}
@@ -131,15 +131,11 @@ module _ (f : List ℕ) (m : Nine) (a : Allowance) where
     pub short-table-14 : m .records / recordWidth ≤ granted a .records → loading f m a ≡ refused 14
     short-table-14 s = records-29 ∙ rw (fits-false m (fileReading f (granted a) .it) (λ _ t. omega (arith, cut-there .records)))
 
--- "Examination loads the file first", "Follow loads": what a load refuses, both refuse by its number.
+-- "Follow loads": what a load refuses, it refuses by its number.
 module _ (f : List ℕ) (m : Nine) (a : Allowance) (e : ℕ) (r : loading f m a ≡ refused e) where
   pub refused-load : load f m a .answer ≡ refused e
   unfolding load
   refused-load = rw r
-
-  pub refused-examine : (q : List ℕ) → examine f m a q .answer ≡ refused e
-  unfolding examine examining
-  refused-examine q = rw r
 
   pub refused-follow : (q : List ℕ) (n : ℕ) (bs : List ℕ) → follow f m a q n bs .answer ≡ refused e
   unfolding follow following
@@ -240,13 +236,22 @@ module _ (f : List ℕ) (m : Nine) where
     same-rows c e = rw (same-loading c e)
 
     -- so what passes under one passes under the other, with the same answer and the same tables
-    pub same-examine : (q : List ℕ) (k : Counts) → examine f m a q .answer ≡ ok k → examine f m b q ≡ examine f m a q
-    unfolding examine examining
-    same-examine q k e = by-load (loading f m a) refl
+    same-bound : (h : Content → Answer Content) (k : Counts) → laid m (bind (loading f m a) h) .answer ≡ ok k
+        → laid m (bind (loading f m b) h) ≡ laid m (bind (loading f m a) h)
+    same-bound h k e = by-load (loading f m a) refl
       where
-        by-load : (x : Answer Content) → loading f m a ≡ x → examine f m b q ≡ examine f m a q
+        by-load : (x : Answer Content) → loading f m a ≡ x → laid m (bind (loading f m b) h) ≡ laid m (bind (loading f m a) h)
         by-load (ok c) r = rw (same-loading c r)
         by-load (refused n) r = absurd (ok-refused (rw r at e))
+
+    pub same-examine : (q : List ℕ) (k : Counts) → examine f m a q .answer ≡ ok k → examine f m b q ≡ examine f m a q
+    unfolding examine examining
+    same-examine q k e = same-bound (passing q f) k e
+
+    -- so does "a single record", i)
+    pub same-single : (q : List ℕ) (i : ℕ) (k : Counts) → examineOne f m a q i .answer ≡ ok k → examineOne f m b q i ≡ examineOne f m a q i
+    unfolding examineOne examiningSingle
+    same-single q i k e = same-bound (passingSingle q i f) k e
 
     -- and each run of it is the same
     pub same-follow : (c : Content) → loading f m a ≡ ok c → (q : List ℕ) (n : ℕ) (bs : List ℕ) → follow f m b q n bs ≡ follow f m a q n bs
@@ -262,6 +267,17 @@ module _ (f : List ℕ) (m : Nine) where
 pub same-passes : (f : List ℕ) (a b : Allowance) (q : List ℕ) → Within a b → FilePasses f a q → FilePasses f b q
 same-passes f a b q w p =
     record { tables = p .tables; content = p .content; loads = same-content f (p .tables) a b (p .content) (p .loads) w; passes = p .passes }
+
+-- and a "record passes by itself", i), under both
+pub same-record-passes : (f : List ℕ) (a b : Allowance) (q : List ℕ) (i : ℕ) → Within a b → FileRecordPasses f a q i → FileRecordPasses f b q i
+same-record-passes f a b q i w p =
+    record {
+      tables = p .tables;
+      content = p .content;
+      loads = same-content f (p .tables) a b (p .content) (p .loads) w;
+      inside = p .inside;
+      passes = p .passes;
+    }
 
 -- Under the desktop's allowance every answer is the one without an allowance.
 module _ (f : List ℕ) (m : Nine) where
@@ -287,6 +303,10 @@ module _ (f : List ℕ) (m : Nine) where
   unfolding examine examining free.examine free.examining
   desktop-examine q = rw desktop-loading
 
+  pub desktop-single : (q : List ℕ) (i : ℕ) → examineOne f m desktop q i ≡ free.examineOne f m q i
+  unfolding examineOne examiningSingle free.examineOne free.examiningSingle
+  desktop-single q i = rw desktop-loading
+
   pub desktop-follow : (q : List ℕ) (n : ℕ) (bs : List ℕ) → follow f m desktop q n bs ≡ free.follow f m q n bs
   unfolding follow following free.follow free.following
   desktop-follow q n bs = rw desktop-loading
@@ -303,6 +323,10 @@ module _ (f : List ℕ) (m : Nine) where
     pub larger-examine : (q : List ℕ) → examine f m a q ≡ examine f m desktop q
     unfolding examine examining
     larger-examine q = rw larger-loading
+
+    pub larger-single : (q : List ℕ) (i : ℕ) → examineOne f m a q i ≡ examineOne f m desktop q i
+    unfolding examineOne examiningSingle
+    larger-single q i = rw larger-loading
 
     pub larger-follow : (q : List ℕ) (n : ℕ) (bs : List ℕ) → follow f m a q n bs ≡ follow f m desktop q n bs
     unfolding follow following

@@ -1,5 +1,5 @@
--- When 29 is met: paper 02, h). A load answers 29 exactly where the file, or its number of records, is beyond the allowance; an examination and a run
--- only where the load does; and under the desktop's allowance, or a larger one, none ever.
+-- When 29 is met: paper 02, h). A load answers 29 exactly where the file, or its number of records, is beyond the allowance; an examination, that of a
+-- single record and a run only where the load does; and under the desktop's allowance, or a larger one, none ever.
 -- Assumes nothing.
 use Prim.Native.Nat.{ℕ, _≤_, _<_}
 use native.Mathlib.Nat.{le-refl}
@@ -11,20 +11,20 @@ use mathlib.Core.List.{List, _∷_}
 use lib.Dec.{leb}
 use lib.ListN.{length}
 use borrow.Author.Tests.{leb-true, leb-false}
-use Rattle.format.specs.Bytes.{Answer, ok, refused}
+use Rattle.format.specs.Bytes.{Answer, ok, refused, bind}
 use Rattle.format.specs.Allowance.{Allowance, desktop, granted, Within}
 use Rattle.format.specs.File.{Content, fileReading}
-use Rattle.format.specs.Load.{Nine, recordsOf, tablesOf, used, fits, ending, loadingWithin, loading, load}
-use Rattle.format.specs.Exam.{passing, examining, examine}
+use Rattle.format.specs.Load.{Nine, recordsOf, tablesOf, used, fits, ending, loadingWithin, loading, laid, load}
+use Rattle.format.specs.Exam.{passing, examining, examine, passingSingle, examiningSingle, examineOne}
 use Rattle.format.specs.Run.{following, Followed, follow}
 use Rattle.format.proofs.Least.{least-iff}
 use Rattle.format.proofs.Answers.{ok-refused, refused-same, Refuses, answered, tested}
-use Rattle.laws.proofs.Numbers.{Among, freeNumbers, conditionNumbers, further}
+use Rattle.laws.proofs.Numbers.{Among, freeNumbers, recordNumbers, conditionNumbers, further}
 use Rattle.laws.proofs.Endings.{free-ends}
-use Rattle.laws.proofs.Refusals.{laid-refuses, passing-refuses, behind-refuses}
+use Rattle.laws.proofs.Refusals.{laid-refuses, passing-refuses, single-refuses, behind-refuses}
 use Rattle.laws.proofs.Unlimited as free
 use Rattle.laws.proofs.Cut.{Beyond, Cut, whole, beyond, beyond-more, cut-beyond, Allowed, reading-cut}
-use Rattle.laws.proofs.Allowance.{fits-few, bytes-29, cut-load, refused-load, refused-examine, refused-follow, desktop-loading, larger-loading}
+use Rattle.laws.proofs.Allowance.{fits-few, bytes-29, cut-load, refused-load, refused-follow, desktop-loading, larger-loading}
 
 -- "the file .. is beyond the caller's allowance but within the desktop's"
 pub record BytesBeyond (f : List ℕ) (a : Allowance) : Type 0 where
@@ -57,16 +57,25 @@ module _ (f : List ℕ) (m : Nine) where
         by-load (ok c) r = absurd (ok-refused (sym (rw r at q)))
         by-load (refused n) r = r ∙ ap refused (refused-same (sym (refused-load f m a n r) ∙ q))
 
-    -- an examination has no 29 of its own
-    pub examine-29 : (q : List ℕ) → examine f m a q .answer ≡ refused 29 → load f m a .answer ≡ refused 29
-    unfolding examine examining
-    examine-29 q e = by-load (loading f m a) refl
+    -- what is made of a file that loads by numbers without 29 has none of its own
+    bound-29 : (ns : List ℕ) → ¬ Among ns 29 → (k : Content → Answer Content) → ((c : Content) → Refuses (Among ns) (k c))
+        → laid m (bind (loading f m a) k) .answer ≡ refused 29 → load f m a .answer ≡ refused 29
+    unfolding load
+    bound-29 ns none-has k h e = by-load (loading f m a) refl
       where
         by-load : (x : Answer Content) → loading f m a ≡ x → load f m a .answer ≡ refused 29
-        by-load (ok c) r =
-            let R : ℕ → Type 0 = Among conditionNumbers in
-            absurd (subst (Refuses R) (rw r at e) (laid-refuses m R (passing q f c) (passing-refuses f q c)))
-        by-load (refused n) r = refused-load f m a n r ∙ ap refused (refused-same (sym (refused-examine f m a n r q) ∙ e))
+        by-load (ok c) r = absurd (none-has (subst (Refuses (Among ns)) (rw r at e) (laid-refuses m (Among ns) (k c) (h c))))
+        by-load (refused n) r = rw r (rw r at e)
+
+    -- so an examination has none
+    pub examine-29 : (q : List ℕ) → examine f m a q .answer ≡ refused 29 → load f m a .answer ≡ refused 29
+    unfolding examine examining
+    examine-29 q e = bound-29 conditionNumbers (λ z. z) (passing q f) (passing-refuses f q) e
+
+    -- nor has that of a single record
+    pub single-29 : (q : List ℕ) (i : ℕ) → examineOne f m a q i .answer ≡ refused 29 → load f m a .answer ≡ refused 29
+    unfolding examineOne examiningSingle
+    single-29 q i e = bound-29 (22 ∷ recordNumbers) (λ z. z) (passingSingle q i f) (single-refuses f q i) e
 
     -- nor has a run
     pub follow-29 : (q : List ℕ) (n : ℕ) (bs : List ℕ) → follow f m a q n bs .answer ≡ refused 29 → load f m a .answer ≡ refused 29
@@ -141,6 +150,9 @@ module _ (f : List ℕ) (m : Nine) where
 
       pub never-29-examine : (q : List ℕ) → ¬ (examine f m a q .answer ≡ refused 29)
       never-29-examine q e = never-29-desktop (examine-29 q e)
+
+      pub never-29-single : (q : List ℕ) (i : ℕ) → ¬ (examineOne f m a q i .answer ≡ refused 29)
+      never-29-single q i e = never-29-desktop (single-29 q i e)
 
       pub never-29-follow : (q : List ℕ) (n : ℕ) (bs : List ℕ) → ¬ (follow f m a q n bs .answer ≡ refused 29)
       never-29-follow q n bs e = never-29-desktop (follow-29 q n bs e)

@@ -1,31 +1,36 @@
 -- The examination of a file is exact: it passes exactly the loaded files that meet none of 15 to 20, 25 and 32, and a number that it answers for a loaded
--- file is that of a condition that is met, the first in the papers' order.
+-- file is that of a condition that is met, the first in the papers' order; so is that of a single record, paper 02, i).
 -- Assumes nothing.
 use Prim.Native.Nat.{ℕ, zero, suc, _<_, suc-le-suc}
 use native.Mathlib.Nat.{le-of-suc-le-suc}
 use native.Mathlib.Omega.{arith}
-use mathlib.Core.Path.{_≡_, refl, sym, subst, _∙_}
+use mathlib.Core.Path.{_≡_, refl, sym, ap, subst, _∙_}
 use mathlib.Core.Logic.{_↔_}
-use mathlib.Core.Bool.{false}
 use mathlib.Core.List.{List, [], _∷_}
-use lib.Dec.{T-not, eqb}
+use lib.Dec.{T-not}
 use lib.ListN.{length, getD}
 use borrow.Author.Tests.{ne-eqb}
 use Rattle.format.specs.Bytes.{Answer, ok, refused, refuse, first}
 use Rattle.format.specs.Allowance.{Allowance}
 use Rattle.format.specs.File.{Content}
-use Rattle.format.specs.Load.{Nine, Counts, counts, loading}
+use Rattle.format.specs.Load.{Nine, counts, loading, laid, load}
 use Rattle.format.specs.Tree.{Whole, whole}
 use Rattle.format.specs.Pattern.{Record, Pattern, patternOf, recAt, blank, rlens}
-use Rattle.format.specs.Exam.{Meets, Passes, exam16, exam32, exam1718, exam19, exam20, examineRecord, examineAll, examinePattern, passing, examining, examine}
+use Rattle.format.specs.Exam.{RecordMeets, RecordPasses, Meets, Passes, exam16, exam32, exam1718, exam19, exam20, examineRecord, examineAll, examinePattern}
+use Rattle.format.specs.Exam.{unlessMet, passing, examining, examine, examineSingle, passingSingle, examiningSingle, examineOne}
 use Rattle.format.proofs.Answers.{ok-refused, refused-same, refuse-hit, refuse-zero}
 use Rattle.runs.proofs.Tree.{whole-iff}
-use Rattle.runs.proofs.Refusal.{passes-iff, refusal-met}
+use Rattle.runs.proofs.Refusal.{hit-rec, single-inside, single-iff, passes-iff, refusal-met}
 
 -- a file that is not loaded is refused by the load's number
 pub load-refused : (f : List ℕ) (m : Nine) (a : Allowance) (q : List ℕ) (n : ℕ) → loading f m a ≡ refused n → examine f m a q .answer ≡ refused n
 unfolding examine examining
 load-refused f m a q n e = rw e
+
+-- i): "A call loads the file and examines a single record": so it answers what the load does, whatever record it names, and leaves the load's tables
+pub single-load-refused : (f : List ℕ) (m : Nine) (a : Allowance) (q : List ℕ) (i n : ℕ) → loading f m a ≡ refused n → examineOne f m a q i ≡ load f m a
+unfolding examineOne examiningSingle load
+single-load-refused f m a q i n e = rw e
 
 -- The first in order: 15 before all others; else the first record that has one, and in it the first of 16 and 25 over the whole record, 32 over
 -- the whole record, 17 and 18 by instruction, 19, 20.
@@ -49,7 +54,7 @@ which : (a b n : ℕ) → first a b ≡ suc n → Which a b n
 which zero b n e = two refl e
 which (suc a) b n e = one e
 
-in-record : (q : List ℕ) (r : Record) (n : ℕ) → examineRecord q r ≡ suc n → InRecord q r (suc n)
+pub in-record : (q : List ℕ) (r : Record) (n : ℕ) → examineRecord q r ≡ suc n → InRecord q r (suc n)
 unfolding examineRecord
 in-record q r n e = a (which (exam16 (r .code)) (first (exam32 q (r .code)) (first (exam1718 r) (first (exam19 r) (exam20 r)))) n e)
   where
@@ -101,38 +106,72 @@ in-order q p n e = go (which (refuse 15 (whole (rlens p))) (examineAll q p) n e)
         let w = first-record q p n e in
         byRecord (whole-iff (rlens p) .0 (refuse-zero 14 (whole (rlens p)) z)) (w .i) (w .inside) (w .before) (in-record q (recAt p (w .i)) n (w .there))
 
+-- What was loaded is answered where its number k is 0, else refused by k.
+module _ (c : Content) (k : ℕ) where
+  pub by-number : (P : Answer Content → Type 0) → (k ≡ 0 → P (ok c)) → ((n : ℕ) → k ≡ suc n → P (refused (suc n))) → P (unlessMet k c)
+  by-number P pass refuses = go k refl
+    where
+      go : (j : ℕ) → k ≡ j → P (unlessMet j c)
+      go zero e = pass e
+      go (suc n) e = rw (ne-eqb (suc n) 0 (λ (z : suc n ≡ 0). omega arith)) (refuses n e)
+
+  pub refused-iff : (n : ℕ) → (unlessMet k c ≡ refused (suc n)) ↔ (k ≡ suc n)
+  refused-iff n = (
+    by-number (λ x. x ≡ refused (suc n) → k ≡ suc n) (λ _ e. absurd (ok-refused (sym e))) (λ j z e. z ∙ refused-same e),
+    λ e. by-number (λ x. x ≡ refused (suc n)) (λ z. absurd (omega arith)) (λ j z. ap refused (sym z ∙ e)),
+  )
+
+  -- the same of an answer, which has the rows used
+  module _ (m : Nine) where
+    pub answered-zero : (laid m (unlessMet k c) .answer ≡ ok (counts c)) ↔ (k ≡ 0)
+    answered-zero = (by-number (λ x. laid m x .answer ≡ ok (counts c) → k ≡ 0) (λ z _. z) (λ _ _ e. absurd (ok-refused e)), λ z. rw z)
+
+    pub answered-number : (R : ℕ → Type 0) → ((j : ℕ) → k ≡ suc j → R (suc j)) → (n : ℕ) → laid m (unlessMet k c) .answer ≡ refused n → R n
+    answered-number R h n =
+        by-number (λ x. laid m x .answer ≡ refused n → R n) (λ _ e. absurd (ok-refused (sym e))) (λ j z e. subst R (refused-same e) (h j z))
+
 -- of a file that loads
 module _ (f : List ℕ) (m : Nine) (a : Allowance) (q : List ℕ) (c : Content) (l : loading f m a ≡ ok c) where
-  abbrev given : ℕ → Answer Counts
-  given zero = ok (counts c)
-  given (suc k) = refused (suc k)
-
-  -- the answer, by the number of the pattern's examination
-  answer-is : (k : ℕ) → examinePattern q (patternOf f c) ≡ k → examine f m a q .answer ≡ given k
+  pub examine-is : examine f m a q ≡ laid m (unlessMet (examinePattern q (patternOf f c)) c)
   unfolding examine examining passing
-  answer-is zero e = rw (l, e)
-  answer-is (suc k) e = let w : eqb (suc k) 0 ≡ false = ne-eqb (suc k) 0 (λ (x : suc k ≡ 0). omega arith) in rw (l, e, w)
+  examine-is = rw l
 
   -- a number is that of a condition that is met
   pub refused-meets : (n : ℕ) → examine f m a q .answer ≡ refused n → Meets q (patternOf f c) n
-  refused-meets n e = go (examinePattern q (patternOf f c)) refl
-    where
-      go : (k : ℕ) → examinePattern q (patternOf f c) ≡ k → Meets q (patternOf f c) n
-      go zero z = absurd (ok-refused (sym e ∙ answer-is 0 z))
-      go (suc k) z = subst (λ x. Meets q (patternOf f c) x) (refused-same (sym (answer-is (suc k) z) ∙ e)) (refusal-met q (patternOf f c) k z)
+  refused-meets n e = let p = patternOf f c in answered-number c (examinePattern q p) m (Meets q p) (refusal-met q p) n (rw examine-is at e)
 
   -- and the first in order
   pub refused-first : (n : ℕ) → examine f m a q .answer ≡ refused n → InOrder q (patternOf f c) n
-  refused-first n e = go (examinePattern q (patternOf f c)) refl
-    where
-      go : (k : ℕ) → examinePattern q (patternOf f c) ≡ k → InOrder q (patternOf f c) n
-      go zero z = absurd (ok-refused (sym e ∙ answer-is 0 z))
-      go (suc k) z = subst (λ x. InOrder q (patternOf f c) x) (refused-same (sym (answer-is (suc k) z) ∙ e)) (in-order q (patternOf f c) k z)
+  refused-first n e = let p = patternOf f c in answered-number c (examinePattern q p) m (InOrder q p) (in-order q p) n (rw examine-is at e)
 
   -- it passes exactly where none of 15 to 20, 25 and 32 is met, and answers the rows used
   pub passes-exactly : (examine f m a q .answer ≡ ok (counts c)) ↔ Passes q (patternOf f c)
-  passes-exactly = (λ e. passes-iff q (patternOf f c) .0 (go e (examinePattern q (patternOf f c)) refl), λ p. answer-is 0 (passes-iff q (patternOf f c) .1 p))
-    where
-      go : examine f m a q .answer ≡ ok (counts c) → (k : ℕ) → examinePattern q (patternOf f c) ≡ k → examinePattern q (patternOf f c) ≡ 0
-      go e zero z = z
-      go e (suc k) z = absurd (ok-refused (sym (answer-is (suc k) z) ∙ e))
+  passes-exactly =
+      let p = patternOf f c in
+      let z = answered-zero c (examinePattern q p) m in
+      (λ e. passes-iff q p .0 (z .0 (rw examine-is at e)), λ h. rw examine-is (z .1 (passes-iff q p .1 h)))
+
+  -- i): "a single record, without 15"
+  module _ (i : ℕ) where
+    pub single-is : examineOne f m a q i ≡ laid m (unlessMet (examineSingle q i (patternOf f c)) c)
+    unfolding examineOne examiningSingle passingSingle
+    single-is = rw l
+
+    -- it passes exactly where the record is there and meets none of 16 to 20, 25 and 32
+    pub single-passes-exactly : (examineOne f m a q i .answer ≡ ok (counts c)) ↔ ((i < length (patternOf f c)) × RecordPasses q (recAt (patternOf f c) i))
+    single-passes-exactly =
+        let p = patternOf f c in
+        let z = answered-zero c (examineSingle q i p) m in
+        (λ e. single-iff q i p .0 (z .0 (rw single-is at e)), λ h. rw single-is (z .1 (single-iff q i p .1 h)))
+
+    -- a number of a record that is there is that of a condition that it meets, and the first in order
+    module _ (h : i < length (patternOf f c)) (n : ℕ) (e : examineOne f m a q i .answer ≡ refused n) where
+      pub single-refused-meets : RecordMeets q (recAt (patternOf f c) i) n
+      single-refused-meets =
+          let r = recAt (patternOf f c) i in
+          answered-number c (examineRecord q r) m (RecordMeets q r) (hit-rec q r) n (rw (single-is, single-inside q i (patternOf f c) h) at e)
+
+      pub single-refused-first : InRecord q (recAt (patternOf f c) i) n
+      single-refused-first =
+          let r = recAt (patternOf f c) i in
+          answered-number c (examineRecord q r) m (InRecord q r) (in-record q r) n (rw (single-is, single-inside q i (patternOf f c) h) at e)

@@ -8,11 +8,11 @@ use mathlib.Core.Path.{_≡_, refl, sym, ap, subst, _∙_}
 use mathlib.Core.Logic.{_↔_, _⊎_, inl, inr}
 use mathlib.Core.Bool.{Bool, true, false, not}
 use mathlib.Core.List.{List, [], _∷_}
-use lib.Dec.{T, not-T, leb, eqb}
+use lib.Dec.{T, not-T, leb}
 use lib.Ieee.Fits.{and-l, and-r}
 use lib.ListN.{length, getD, length-map}
-use borrow.Author.Tests.{ne-eqb, leb-true, le-leb}
-use Rattle.format.specs.Bytes.{Answer, ok, refused, byte, refuse, first}
+use borrow.Author.Tests.{leb-true, le-leb}
+use Rattle.format.specs.Bytes.{Answer, ok, refused, bind, byte, refuse, first}
 use Rattle.format.specs.Allowance.{Allowance}
 use Rattle.format.specs.File.{Content}
 use Rattle.format.specs.Load.{Nine, recordsOf, loading, laid, load}
@@ -22,17 +22,17 @@ use Rattle.format.specs.Pattern.{Record, Pattern, patternOf, recAt, blank, rlen
 use Rattle.format.specs.Line.{rising}
 use Rattle.format.specs.Permitted.{permits, permittedAt, Everything}
 use Rattle.format.specs.Exam.{bounded, follows, Bad16, Bad25, Bad32, RecordPasses, Passes, FilePasses, at1718, exam16, exam32, exam1718, exam19, exam20}
-use Rattle.format.specs.Exam.{examineRecord, examineAll, examinePattern, passing, examining, examine}
+use Rattle.format.specs.Exam.{examineRecord, examineAll, examinePattern, passing, examining, examine, examineSingle, passingSingle, examiningSingle, examineOne}
 use Rattle.format.specs.Run.{Choice, frame, codeOf, run, choices, kind, Standing, standing, frameTable, following, Followed, follow}
 use Rattle.format.proofs.Answers.{ok-refused, refused-same, refuse-pass, refuse-hit, Refuses, weaker, answered, tested, chained}
 use Rattle.runs.proofs.Tests.{firstAt-hit, firstOf-hit}
 use Rattle.runs.proofs.Tree.{whole-iff}
 use Rattle.runs.proofs.Safe.{begins-zero}
 use Rattle.runs.proofs.Exact.{filled-16, permitting-file}
-use Rattle.runs.proofs.Refusal.{told-16, told-32, clear-16, clear-32, record-iff, passes-iff, by-record}
-use Rattle.laws.proofs.Exact.{InRecord, by16, by32, by1718, by19, by20, InOrder, by15, byRecord, in-order}
+use Rattle.runs.proofs.Refusal.{told-16, told-32, clear-16, clear-32, record-iff, single-by, single-inside, passes-iff, by-record}
+use Rattle.laws.proofs.Exact.{InRecord, by16, by32, by1718, by19, by20, InOrder, by15, byRecord, in-record, in-order, refused-iff, single-is}
 use Rattle.laws.proofs.Numbers.{Among}
-use Rattle.laws.proofs.Refusals.{load-number}
+use Rattle.laws.proofs.Refusals.{load-number, behind-load}
 use Rattle.laws.proofs.Demand3.{choices-21, claim-anywhere}
 use Rattle.laws.proofs.Allowance.{refused-load}
 use Rattle.laws.proofs.Permitted.{permits-iff, missing-is-no, none-held}
@@ -87,15 +87,36 @@ module _ (r : Record) where
   unfolding exam20
   not-by-20 e = omega (arith, refuse-hit 20 31 (rising (r .lines)) e .0)
 
+-- so a record's number is 32 exactly where it meets neither 16 nor 25 and holds an opcode that is not permitted
+pub record ForbidsRecord (q : List ℕ) (r : Record) : Type 0 where
+  pub none-16 : ¬ Bad16 r
+  pub none-25 : ¬ Bad25 r
+  pub holds : Bad32 q r
+
+forbids-by : (q : List ℕ) (r : Record) → InRecord q r 32 → ForbidsRecord q r
+forbids-by q r (by16 e) = absurd (not-by-16 r e)
+forbids-by q r (by32 x e) = let c = clear-16 r .0 x in record { none-16 = c .0; none-25 = c .1; holds = holds-32 q r .0 e }
+forbids-by q r (by1718 x y e) = absurd (not-by-1718 r e)
+forbids-by q r (by19 x y z e) = absurd (not-by-19 r e)
+forbids-by q r (by20 x y z w e) = absurd (not-by-20 r e)
+
+pub record-32 : (q : List ℕ) (r : Record) → (examineRecord q r ≡ 32) ↔ ForbidsRecord q r
+record-32 q r = (λ e. forbids-by q r (in-record q r 31 e), λ x. before-17 q r (x .none-16) (x .none-25) (x .holds))
+
+-- and so is that of record i of a pattern, where it is there
+numbered-32 : (q : List ℕ) (i : ℕ) (p : Pattern) → (examineSingle q i p ≡ 32) ↔ ((i < length p) × ForbidsRecord q (recAt p i))
+numbered-32 q i p = (
+  single-by q i p (λ (k : ℕ). k ≡ 32 → (i < length p) × ForbidsRecord q (recAt p i)) (λ h e. (h, record-32 q (recAt p i) .0 e)) (λ _ e. absurd (omega arith)),
+  λ x. single-inside q i p (x .0) ∙ record-32 q (recAt p i) .1 (x .1),
+)
+
 -- Of a pattern: the tree is whole, the records before one meet no condition, that one meets neither 16 nor 25 and holds an opcode that is not permitted.
 pub record Forbids (q : List ℕ) (p : Pattern) : Type 0 where
   pub tree : Whole (rlens p)
   pub rec : ℕ
   pub inside : rec < length p
   pub before : (j : ℕ) → j < rec → RecordPasses q (recAt p j)
-  pub none-16 : ¬ Bad16 (recAt p rec)
-  pub none-25 : ¬ Bad25 (recAt p rec)
-  pub holds : Bad32 q (recAt p rec)
+  pub forbids : ForbidsRecord q (recAt p rec)
 
 -- the number of the first record that has one
 module _ (q : List ℕ) (n : ℕ) where
@@ -106,7 +127,7 @@ module _ (q : List ℕ) (n : ℕ) where
   first-record (r ∷ rs) zero h z e = rw e
   first-record (r ∷ rs) (suc i) h z e = rw (z 0 (omega arith)) (first-record rs i (le-of-suc-le-suc h) (λ j g. z (suc j) (suc-le-suc g)) e)
 
-  by-first : (p : Pattern) → Whole (rlens p) → (i : ℕ) → i < length p → ((j : ℕ) → j < i → examineRecord q (recAt p j) ≡ 0)
+  pub by-first : (p : Pattern) → Whole (rlens p) → (i : ℕ) → i < length p → ((j : ℕ) → j < i → examineRecord q (recAt p j) ≡ 0)
       → examineRecord q (recAt p i) ≡ suc n → examinePattern q p ≡ suc n
   unfolding examinePattern
   by-first p w i h z e = rw (refuse-pass 15 (whole (rlens p)) (whole-iff (rlens p) .1 w)) (first-record p i h z e)
@@ -117,22 +138,11 @@ pattern-32 q p = (λ e. there (in-order q p 31 e), back)
     back : Forbids q p → examinePattern q p ≡ 32
     back x =
         let r = recAt p (x .rec) in
-        by-first q 31 p (x .tree) (x .rec) (x .inside) (λ j g. record-iff q (recAt p j) .1 (x .before j g)) (before-17 q r (x .none-16) (x .none-25) (x .holds))
-
-    in-record : (r : Record) → InRecord q r 32 → (exam16 (r .code) ≡ 0) × (exam32 q (r .code) ≡ 32)
-    in-record r (by16 e) = absurd (not-by-16 r e)
-    in-record r (by32 x e) = (x, e)
-    in-record r (by1718 x y e) = absurd (not-by-1718 r e)
-    in-record r (by19 x y z e) = absurd (not-by-19 r e)
-    in-record r (by20 x y z w e) = absurd (not-by-20 r e)
+        by-first q 31 p (x .tree) (x .rec) (x .inside) (λ j g. record-iff q (recAt p j) .1 (x .before j g)) (record-32 q r .1 (x .forbids))
 
     there : InOrder q p 32 → Forbids q p
     there (by15 w e) = absurd (omega arith)
-    there (byRecord w i h z x) =
-        let r = recAt p i in
-        let k = in-record r x in
-        let c = clear-16 r .0 (k .0) in
-        record { tree = w; rec = i; inside = h; before = λ j g. record-iff q (recAt p j) .0 (z j g); none-16 = c .0; none-25 = c .1; holds = holds-32 q r .0 (k .1) }
+    there (byRecord w i h z x) = record { tree = w; rec = i; inside = h; before = λ j g. record-iff q (recAt p j) .0 (z j g); forbids = forbids-by q (recAt p i) x }
 
 -- Of a call. A load takes no list, and has no 32.
 pub never-32-load : (f : List ℕ) (m : Nine) (a : Allowance) → ¬ (load f m a .answer ≡ refused 32)
@@ -146,14 +156,7 @@ module _ (q f : List ℕ) (c : Content) where
 
   passing-number : (n : ℕ) → (passing q f c ≡ refused (suc n)) ↔ (examinePattern q (patternOf f c) ≡ suc n)
   unfolding passing
-  passing-number n = (λ e. there e (examinePattern q (patternOf f c)) refl, λ e. let z = not-zero n in rw (e, z))
-    where
-      not-zero : (n : ℕ) → eqb (suc n) 0 ≡ false
-      not-zero n = ne-eqb (suc n) 0 (λ (x : suc n ≡ 0). omega arith)
-
-      there : passing q f c ≡ refused (suc n) → (k : ℕ) → examinePattern q (patternOf f c) ≡ k → examinePattern q (patternOf f c) ≡ suc n
-      there e zero g = absurd (ok-refused (sym (rw g at e)))
-      there e (suc k) g = g ∙ refused-same (rw (g, not-zero k) at e)
+  passing-number n = refused-iff c (examinePattern q (patternOf f c)) n
 
   passing-32 : (passing q f c ≡ refused 32) ↔ Forbids q (patternOf f c)
   passing-32 = (λ e. pattern-32 q (patternOf f c) .0 (passing-number 31 .0 e), λ x. passing-number 31 .1 (pattern-32 q (patternOf f c) .1 x))
@@ -162,18 +165,24 @@ module _ (f : List ℕ) (m : Nine) (a : Allowance) (q : List ℕ) where
   -- "32 when a record holds an opcode not permitted, after 16 and 25 over that record, before any 17 there"
   pub examine-32 : (examine f m a q .answer ≡ refused 32) ↔ ((c : Content) × (loading f m a ≡ ok c) × Forbids q (patternOf f c))
   unfolding examine examining
-  examine-32 = (λ e. there e (loading f m a) refl, λ x. back (x .0) (x .1) (x .2))
+  examine-32 = (
+    λ e. let x = behind-load f m a (passing q f) 32 (λ z. z) e in (x .0, x .1, passing-32 q f (x .0) .0 (x .2)),
+    λ x. let l = x .1 in let h = passing-32 q f (x .0) .1 (x .2) in rw (l, h),
+  )
+
+  -- i): of a single record, that record's opcodes alone: what the tree and the other records are does not count
+  pub single-32 : (i : ℕ) → (examineOne f m a q i .answer ≡ refused 32)
+      ↔ ((c : Content) × (loading f m a ≡ ok c) × (i < length (patternOf f c)) × ForbidsRecord q (recAt (patternOf f c) i))
+  unfolding examineOne examiningSingle passingSingle
+  single-32 i = (there, λ x. let p = patternOf f (x .0) in let l = x .1 in let h = numbered-32 q i p .1 (x .2, x .3) in rw (l, h))
     where
-      back : (c : Content) → loading f m a ≡ ok c → Forbids q (patternOf f c) → examine f m a q .answer ≡ refused 32
-      back c l x = rw (l, passing-32 q f c .1 x)
-
-      laid-32 : (x : Answer Content) → laid m x .answer ≡ refused 32 → x ≡ refused 32
-      laid-32 (ok c) e = absurd (ok-refused (sym e))
-      laid-32 (refused k) e = ap refused (refused-same e)
-
-      there : examine f m a q .answer ≡ refused 32 → (x : Answer Content) → loading f m a ≡ x → (c : Content) × (loading f m a ≡ ok c) × Forbids q (patternOf f c)
-      there e (ok c) l = (c, l, passing-32 q f c .0 (laid-32 (passing q f c) (rw l at e)))
-      there e (refused k) l = absurd (never-32-load f m a (refused-load f m a k l ∙ (rw l at e)))
+      there : laid m (bind (loading f m a) (passingSingle q i f)) .answer ≡ refused 32
+          → (c : Content) × (loading f m a ≡ ok c) × (i < length (patternOf f c)) × ForbidsRecord q (recAt (patternOf f c) i)
+      there e =
+          let x = behind-load f m a (passingSingle q i f) 32 (λ z. z) e in
+          let p = patternOf f (x .0) in
+          let y = numbered-32 q i p .0 (refused-iff (x .0) (examineSingle q i p) 31 .0 (x .2)) in
+          (x .0, x .1, y .0, y .1)
 
   -- follow "tests its frame table" before it examines
   pub follow-32 : (n : ℕ) (bs : List ℕ) → (follow f m a q n bs .answer ≡ refused 32)
@@ -231,6 +240,20 @@ module _ (q : List ℕ) (none-permitted : (b : ℕ) → ¬ T (permits q b)) wher
           let h = after-16 q r (λ (z : exam16 (r .code) ≡ 0). absurd (omega arith)) ∙ e in
           elim (told-16 r k e) [ inl b ↦ is (h ∙ sym (b .0)) tt | inr b ↦ is (h ∙ sym (b .0)) tt ]
 
+  -- i): so a record that is there is refused by one of these
+  pub nothing-single : (f : List ℕ) (m : Nine) (a : Allowance) (c : Content) → loading f m a ≡ ok c → (i : ℕ) → i < length (patternOf f c)
+      → (e : ℕ) × (examineOne f m a q i .answer ≡ refused e) × Among nothingNumbers e
+  nothing-single f m a c l i h = go (examineRecord q r) refl (nothing-record r)
+    where
+      r : Record
+      r = recAt (patternOf f c) i
+
+      go : (k : ℕ) → examineRecord q r ≡ k → Among nothingNumbers k → (e : ℕ) × (examineOne f m a q i .answer ≡ refused e) × Among nothingNumbers e
+      go zero e t = absurd t
+      go (suc n) e t =
+          let z = refused-iff c (examineRecord q r) n .1 e in
+          (suc n, rw (single-is f m a q c l i, single-inside q i (patternOf f c) h, z), t)
+
   nothing-pattern : (p : Pattern) → Whole (rlens p) → (n : ℕ) × (examinePattern q p ≡ suc n) × Among nothingNumbers (suc n)
   nothing-pattern p w = go (examineRecord q (recAt p 0)) refl (nothing-record (recAt p 0))
     where
@@ -256,14 +279,17 @@ module _ (q : List ℕ) (none-permitted : (b : ℕ) → ¬ T (permits q b)) wher
 
 -- with everything permitted there is no 32
 module _ (q : List ℕ) (all : Everything q) where
-  none-forbidden : (p : Pattern) → ¬ Forbids q p
-  none-forbidden p x = none-held q all (recAt p (x .rec)) (clear-16 (recAt p (x .rec)) .1 (x .none-16, x .none-25)) (x .holds)
+  none-forbidden : (r : Record) → ¬ ForbidsRecord q r
+  none-forbidden r x = none-held q all r (clear-16 r .1 (x .none-16, x .none-25)) (x .holds)
 
   pub never-32-examine : (f : List ℕ) (m : Nine) (a : Allowance) → ¬ (examine f m a q .answer ≡ refused 32)
-  never-32-examine f m a e = let x = examine-32 f m a q .0 e in none-forbidden (patternOf f (x .0)) (x .2)
+  never-32-examine f m a e = none-forbidden _ (examine-32 f m a q .0 e .2 .forbids)
+
+  pub never-32-single : (f : List ℕ) (m : Nine) (a : Allowance) (i : ℕ) → ¬ (examineOne f m a q i .answer ≡ refused 32)
+  never-32-single f m a i e = none-forbidden _ (single-32 f m a q i .0 e .3)
 
   pub never-32-follow : (f : List ℕ) (m : Nine) (a : Allowance) (n : ℕ) (bs : List ℕ) → ¬ (follow f m a q n bs .answer ≡ refused 32)
-  never-32-follow f m a n bs e = let x = follow-32 f m a q n bs .0 e in none-forbidden (patternOf f (x .0)) (x .3)
+  never-32-follow f m a n bs e = none-forbidden _ (follow-32 f m a q n bs .0 e .3 .forbids)
 
 -- Of a file that passes. The opcode of the instruction at o is b, or its prefix is.
 abbrev pub Uses : List ℕ → ℕ → ℕ → Type 0

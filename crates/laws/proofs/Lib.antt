@@ -25,4 +25,5 @@ pub mod Beyond
 pub mod Unrestricted
 pub mod Permitted
 pub mod Forbidden
+pub mod Single
 pub mod Samples

@@ -29,15 +29,21 @@ freeNumbers = testNumbers ++ sectionNumbers
 abbrev pub readingNumbers : List ℕ
 readingNumbers = 29 ∷ freeNumbers
 
--- a load, an examination, follow
+-- a load, an examination, that of a single record, follow
 abbrev pub loadNumbers : List ℕ
 loadNumbers = 14 ∷ readingNumbers
 
+abbrev pub recordNumbers : List ℕ
+recordNumbers = 16 ∷ 17 ∷ 18 ∷ 19 ∷ 20 ∷ 25 ∷ 32 ∷ []
+
 abbrev pub conditionNumbers : List ℕ
-conditionNumbers = 15 ∷ 16 ∷ 17 ∷ 18 ∷ 19 ∷ 20 ∷ 25 ∷ 32 ∷ []
+conditionNumbers = 15 ∷ recordNumbers
 
 abbrev pub examineNumbers : List ℕ
 examineNumbers = loadNumbers ++ conditionNumbers
+
+abbrev pub singleNumbers : List ℕ
+singleNumbers = loadNumbers ++ 22 ∷ recordNumbers
 
 abbrev pub followNumbers : List ℕ
 followNumbers = 21 ∷ examineNumbers

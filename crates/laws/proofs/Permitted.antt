@@ -5,30 +5,31 @@ use Prim.Native.Nat.{ℕ, zero, suc, _+_, _/_, _≤_, _<_}
 use native.Mathlib.Omega.{arith}
 use mathlib.Core.Path.{_≡_, refl, sym, ap, subst, _∙_, fun-ext}
 use mathlib.Core.Logic.{_↔_, _⊎_, inl, inr}
-use mathlib.Core.Bool.{Bool, true, false}
+use mathlib.Core.Bool.{Bool, true, false, cond}
 use mathlib.Core.List.{List, [], _∷_, _++_}
-use lib.Dec.{T, T-not, not-T, leb, eqb, leb→le, ltb→lt, lt→ltb}
+use lib.Dec.{T, T-not, not-T, ltb, leb, eqb, leb→le, ltb→lt, lt→ltb}
 use lib.Ieee.Fits.{and-i, and-l, and-r}
 use lib.ListN.{length, getD, replicate, getD-replicate, List·getD-append, List·getD-eq-default}
 use borrow.Author.Tests.{eqb-true, eqb-false}
-use Rattle.format.specs.Bytes.{Answer, ok, refused, byte, refuse, first}
+use Rattle.format.specs.Bytes.{Answer, ok, refused, bind, byte, refuse, first}
 use Rattle.format.specs.Allowance.{Allowance}
 use Rattle.format.specs.File.{Content}
-use Rattle.format.specs.Load.{Nine, Counts, Loaded, recordsOf, loading}
+use Rattle.format.specs.Load.{Nine, Counts, Loaded, recordsOf, loading, laid}
 use Rattle.format.specs.Insn.{known, prefix, opcode}
 use Rattle.format.specs.Tree.{whole}
 use Rattle.format.specs.Pattern.{Record, Pattern, patternOf, recAt, rlens}
 use Rattle.format.specs.Permitted.{permits, permittedAt, Further, Everything, everything}
-use Rattle.format.specs.Exam.{readable, Bad32, RecordPasses, Some, Passes, FilePasses}
+use Rattle.format.specs.Exam.{readable, Bad32, RecordPasses, Some, Passes, FilePasses, FileRecordPasses}
 use Rattle.format.specs.Exam.{RecordMeets, meets16, meets17, meets18, meets19, meets20, meets25, meets32, Meets, meets15, meetsRecord}
-use Rattle.format.specs.Exam.{exam16, exam32, examineRecord, examineAll, examinePattern, passing, examining, examine}
+use Rattle.format.specs.Exam.{exam16, exam32, examineRecord, examineAll, examinePattern, unlessMet, passing, examining, examine}
+use Rattle.format.specs.Exam.{examineSingle, passingSingle, examiningSingle, examineOne}
 use Rattle.format.specs.Run.{Standing, following, Followed, follow}
 use Rattle.format.proofs.Answers.{ok-refused}
 use Rattle.format.proofs.Table.{both}
 use Rattle.runs.proofs.Next.{opcode-alone, opcode-behind}
 use Rattle.runs.proofs.Exact.{each-16}
-use Rattle.runs.proofs.Refusal.{told-32, clear-16, clear-32}
-use Rattle.runs.proofs.Lists.{same-pattern}
+use Rattle.runs.proofs.Refusal.{told-32, clear-16, clear-32, record-iff}
+use Rattle.runs.proofs.Lists.{same-record, same-pattern}
 use Rattle.laws.proofs.Unrestricted as earlier
 
 -- What a list permits.
@@ -119,6 +120,15 @@ module _ (q l : List ℕ) (same : Same q l) where
   unfolding examine examining
   same-examine f m a = rw (passing-same f)
 
+  -- "the single-record call .. take the list too"
+  passing-same-single : (i : ℕ) (f : List ℕ) → passingSingle q i f ≡ passingSingle l i f
+  unfolding passingSingle examineSingle
+  passing-same-single i f = fun-ext (λ c. rw (same-record q l same (recAt (patternOf f c) i)))
+
+  pub same-single : (f : List ℕ) (m : Nine) (a : Allowance) (i : ℕ) → examineOne f m a q i ≡ examineOne f m a l i
+  unfolding examineOne examiningSingle
+  same-single f m a i = rw (passing-same-single i f)
+
   pub same-follow : (f : List ℕ) (m : Nine) (a : Allowance) (n : ℕ) (bs : List ℕ) → follow f m a q n bs ≡ follow f m a l n bs
   unfolding follow following
   same-follow f m a n bs = rw (passing-same f)
@@ -189,6 +199,28 @@ module _ (q l : List ℕ) (more : Further q l) where
       go zero e zero g = rw (e, g, clear-32 l r .1 (λ b. clear-32 q r .0 g (fewer-32 r b)))
       go zero e (suc b) g = absurd (n (rw (e, g) (sym (told-32 q r b g .0))))
 
+  -- so of a single record, and one that "passes by itself" passes, i)
+  pub further-single : (i : ℕ) (p : Pattern) → ¬ (examineSingle q i p ≡ 32) → examineSingle l i p ≡ examineSingle q i p
+  unfolding examineSingle
+  further-single i p n = go (ltb i (length p)) refl
+    where
+      go : (b : Bool) → ltb i (length p) ≡ b → cond b (examineRecord l (recAt p i)) 22 ≡ cond b (examineRecord q (recAt p i)) 22
+      go true e = further-record (recAt p i) (λ z. n (rw e z))
+      go false e = refl
+
+  pub more-record : (r : Record) → RecordPasses q r → RecordPasses l r
+  more-record r h = let e = record-iff q r .1 h in record-iff l r .0 (further-record r (λ z. omega arith) ∙ e)
+
+  pub more-records : (f : List ℕ) (a : Allowance) (i : ℕ) → FileRecordPasses f a q i → FileRecordPasses f a l i
+  more-records f a i x =
+      record {
+        tables = x .tables;
+        content = x .content;
+        loads = x .loads;
+        inside = x .inside;
+        passes = more-record (recAt (patternOf f (x .content)) i) (x .passes);
+      }
+
   further-all : (rs : List Record) → ¬ (examineAll q rs ≡ 32) → examineAll l rs ≡ examineAll q rs
   unfolding examineAll
   further-all [] n = refl
@@ -207,23 +239,38 @@ module _ (q l : List ℕ) (more : Further q l) where
       go zero e = further-all p (λ z. n (rw e z))
       go (suc k) e = refl
 
+-- a number that is 32 or stands, of what was loaded
+stands-or-32 : (c : Content) (k j : ℕ) → (¬ (k ≡ 32) → j ≡ k) → (unlessMet k c ≡ refused 32) ⊎ (unlessMet j c ≡ unlessMet k c)
+stands-or-32 c k j h = go (eqb k 32) refl
+  where
+    go : (b : Bool) → eqb k 32 ≡ b → (unlessMet k c ≡ refused 32) ⊎ (unlessMet j c ≡ unlessMet k c)
+    go true e = inl (rw (eqb-true k 32 e))
+    go false e = inr (rw (h (eqb-false k 32 e)))
+
 -- so a call answers 32, or what it answers under a list that permits further opcodes
 module _ (q l : List ℕ) (more : Further q l) (f : List ℕ) (m : Nine) (a : Allowance) where
   passing-further : (c : Content) → (passing q f c ≡ refused 32) ⊎ (passing l f c ≡ passing q f c)
   unfolding passing
-  passing-further c = go (eqb (examinePattern q (patternOf f c)) 32) refl
+  passing-further c = let p = patternOf f c in stands-or-32 c (examinePattern q p) (examinePattern l p) (further-same q l more p)
+
+  bound-further : (h g : Content → Answer Content) → ((c : Content) → (h c ≡ refused 32) ⊎ (g c ≡ h c))
+      → (laid m (bind (loading f m a) h) .answer ≡ refused 32) ⊎ (laid m (bind (loading f m a) g) ≡ laid m (bind (loading f m a) h))
+  bound-further h g s = by-load (loading f m a)
     where
-      go : (b : Bool) → eqb (examinePattern q (patternOf f c)) 32 ≡ b → (passing q f c ≡ refused 32) ⊎ (passing l f c ≡ passing q f c)
-      go true e = inl (rw (eqb-true (examinePattern q (patternOf f c)) 32 e))
-      go false e = inr (rw (further-same q l more (patternOf f c) (eqb-false (examinePattern q (patternOf f c)) 32 e)))
+      by-load : (x : Answer Content) → (laid m (bind x h) .answer ≡ refused 32) ⊎ (laid m (bind x g) ≡ laid m (bind x h))
+      by-load (ok c) = elim (s c) [ inl e ↦ inl (rw e) | inr e ↦ inr (rw e) ]
+      by-load (refused n) = inr refl
 
   pub examine-further : (examine f m a q .answer ≡ refused 32) ⊎ (examine f m a l ≡ examine f m a q)
   unfolding examine examining
-  examine-further = by-load (loading f m a) refl
-    where
-      by-load : (x : Answer Content) → loading f m a ≡ x → (examine f m a q .answer ≡ refused 32) ⊎ (examine f m a l ≡ examine f m a q)
-      by-load (ok c) e = elim (passing-further c) [ inl h ↦ inl (rw (e, h)) | inr h ↦ inr (rw (e, h)) ]
-      by-load (refused n) e = inr (rw e)
+  examine-further = bound-further (passing q f) (passing l f) passing-further
+
+  -- "the single-record call .. take the list too"
+  pub single-further : (i : ℕ) → (examineOne f m a q i .answer ≡ refused 32) ⊎ (examineOne f m a l i ≡ examineOne f m a q i)
+  unfolding examineOne examiningSingle passingSingle
+  single-further i =
+      bound-further (passingSingle q i f) (passingSingle l i f)
+      (λ c. let p = patternOf f c in stands-or-32 c (examineSingle q i p) (examineSingle l i p) (further-single q l more i p))
 
   pub follow-further : (n : ℕ) (bs : List ℕ) → (follow f m a q n bs .answer ≡ refused 32) ⊎ (follow f m a l n bs ≡ follow f m a q n bs)
   unfolding follow following
@@ -242,6 +289,9 @@ module _ (q l : List ℕ) (more : Further q l) (f : List ℕ) (m : Nine) (a : Al
   pub examine-stands : ¬ (examine f m a q .answer ≡ refused 32) → examine f m a l ≡ examine f m a q
   examine-stands not-32 = elim examine-further [ inl e ↦ absurd (not-32 e) | inr e ↦ e ]
 
+  pub single-stands : (i : ℕ) → ¬ (examineOne f m a q i .answer ≡ refused 32) → examineOne f m a l i ≡ examineOne f m a q i
+  single-stands i not-32 = elim (single-further i) [ inl e ↦ absurd (not-32 e) | inr e ↦ e ]
+
   pub follow-stands : (n : ℕ) (bs : List ℕ) → ¬ (follow f m a q n bs .answer ≡ refused 32) → follow f m a l n bs ≡ follow f m a q n bs
   follow-stands n bs not-32 = elim (follow-further n bs) [ inl e ↦ absurd (not-32 e) | inr e ↦ e ]
 
@@ -249,12 +299,18 @@ module _ (q l : List ℕ) (more : Further q l) (f : List ℕ) (m : Nine) (a : Al
   pub examine-still : examine f m a l .answer ≡ refused 32 → examine f m a q .answer ≡ refused 32
   examine-still r = elim examine-further [ inl e ↦ e | inr e ↦ sym (ap (λ (x : Loaded). x .answer) e) ∙ r ]
 
+  pub single-still : (i : ℕ) → examineOne f m a l i .answer ≡ refused 32 → examineOne f m a q i .answer ≡ refused 32
+  single-still i r = elim (single-further i) [ inl e ↦ e | inr e ↦ sym (ap (λ (x : Loaded). x .answer) e) ∙ r ]
+
   pub follow-still : (n : ℕ) (bs : List ℕ) → follow f m a l n bs .answer ≡ refused 32 → follow f m a q n bs .answer ≡ refused 32
   follow-still n bs r = elim (follow-further n bs) [ inl e ↦ e | inr e ↦ sym (ap (λ (x : Followed). x .answer) e) ∙ r ]
 
   -- "Permitting further opcodes never turns a pass into a refusal."
   pub examine-passes : (k : Counts) → examine f m a q .answer ≡ ok k → examine f m a l ≡ examine f m a q
   examine-passes k e = examine-stands (λ r. ok-refused (sym r ∙ e))
+
+  pub single-passes : (i : ℕ) (k : Counts) → examineOne f m a q i .answer ≡ ok k → examineOne f m a l i ≡ examineOne f m a q i
+  single-passes i k e = single-stands i (λ r. ok-refused (sym r ∙ e))
 
   pub follow-passes : (n : ℕ) (bs : List ℕ) (s : Standing) → follow f m a q n bs .answer ≡ ok s → follow f m a l n bs ≡ follow f m a q n bs
   follow-passes n bs s e = follow-stands n bs (λ r. ok-refused (sym r ∙ e))
@@ -303,6 +359,15 @@ module _ (q : List ℕ) (all : Everything q) where
   unfolding examine examining earlier.examine earlier.examining
   everything-examine f m a = rw (everything-passing f)
 
+  -- "the single-record call .. take the list too"
+  everything-passing-single : (i : ℕ) (f : List ℕ) → passingSingle q i f ≡ earlier.passingSingle i f
+  unfolding passingSingle examineSingle earlier.passingSingle earlier.examineSingle
+  everything-passing-single i f = fun-ext (λ c. rw (earlier-record (recAt (patternOf f c) i)))
+
+  pub everything-single : (f : List ℕ) (m : Nine) (a : Allowance) (i : ℕ) → examineOne f m a q i ≡ earlier.examineOne f m a i
+  unfolding examineOne examiningSingle earlier.examineOne earlier.examiningSingle
+  everything-single f m a i = rw (everything-passing-single i f)
+
   pub everything-follow : (f : List ℕ) (m : Nine) (a : Allowance) (n : ℕ) (bs : List ℕ) → follow f m a q n bs ≡ earlier.follow f m a n bs
   unfolding follow following earlier.follow earlier.following
   everything-follow f m a n bs = rw (everything-passing f)
@@ -328,6 +393,9 @@ module _ (q : List ℕ) (all : Everything q) where
 pub earlier-examine : (λ f m a. examine f m a everything) ≡ earlier.examine
 earlier-examine = fun-ext (λ f. fun-ext (λ m. fun-ext (λ a. everything-examine everything everything-permitted f m a)))
 
+pub earlier-single : (λ f m a. examineOne f m a everything) ≡ earlier.examineOne
+earlier-single = fun-ext (λ f. fun-ext (λ m. fun-ext (λ a. fun-ext (λ i. everything-single everything everything-permitted f m a i))))
+
 pub earlier-follow : (λ f m a. follow f m a everything) ≡ earlier.follow
 earlier-follow = fun-ext (λ f. fun-ext (λ m. fun-ext (λ a. fun-ext (λ n. fun-ext (λ bs. everything-follow everything everything-permitted f m a n bs)))))
 
@@ -338,6 +406,12 @@ module _ (q : List ℕ) (f : List ℕ) (m : Nine) (a : Allowance) where
       let more = everything-further q everything everything-permitted in
       let is = everything-examine everything everything-permitted f m a in
       elim (examine-further q everything more f m a) [ inl e ↦ inl e | inr e ↦ inr (sym e ∙ is) ]
+
+  pub single-or-32 : (i : ℕ) → (examineOne f m a q i .answer ≡ refused 32) ⊎ (examineOne f m a q i ≡ earlier.examineOne f m a i)
+  single-or-32 i =
+      let more = everything-further q everything everything-permitted in
+      let is = everything-single everything everything-permitted f m a i in
+      elim (single-further q everything more f m a i) [ inl e ↦ inl e | inr e ↦ inr (sym e ∙ is) ]
 
   pub follow-or-32 : (n : ℕ) (bs : List ℕ) → (follow f m a q n bs .answer ≡ refused 32) ⊎ (follow f m a q n bs ≡ earlier.follow f m a n bs)
   follow-or-32 n bs =

@@ -1,17 +1,15 @@
 -- Demand 1, under every allowance and every list of permitted opcodes: a load refuses only by 1 to 14 and 27 to 29, an examination by those, 15 to 20, 25
--- and 32, follow by those and 21, a lookup by 22 alone and fetch by 23 and 24 alone, so no refusal is 0; and after a refusal every lent table is zero
--- throughout.
+-- and 32, that of a single record by 22 in the place of 15, follow by an examination's and 21, a lookup by 22 alone and fetch by 23 and 24 alone, so no
+-- refusal is 0; and after a refusal every lent table is zero throughout.
 -- Assumes nothing.
-use Prim.Native.Nat.{ℕ, zero, suc, _+_, _/_}
+use Prim.Native.Nat.{ℕ, suc, _+_, _/_}
 use native.Mathlib.Nat.{sub-zero}
-use native.Mathlib.Omega.{arith}
-use mathlib.Core.Path.{_≡_, refl, sym, subst}
+use mathlib.Core.Path.{_≡_, refl, sym, ap, subst, _∙_}
 use mathlib.Core.Logic.{_⊎_, inl, inr}
-use mathlib.Core.Bool.{false, _&&_, _||_, cond}
+use mathlib.Core.Bool.{_&&_, _||_}
 use mathlib.Core.List.{List, _∷_}
-use lib.Dec.{leb, ltb, eqb}
+use lib.Dec.{T, leb, ltb, eqb}
 use lib.ListN.{length, replicate}
-use borrow.Author.Tests.{ne-eqb}
 use Rattle.format.specs.Bytes.{Answer, ok, refused, bind, has, byte}
 use Rattle.format.specs.Rows.{Range, RecordRow, PoolRow, TextRow, textRow, recordWidth}
 use Rattle.format.specs.Allowance.{Allowance, granted}
@@ -21,11 +19,12 @@ use Rattle.format.specs.Insn.{kind, known, row, width, fetchAs, fetch}
 use Rattle.format.specs.Lookup as look
 use Rattle.format.specs.Pattern.{Record, Pattern, patternOf, recAt}
 use Rattle.format.specs.Exam.{RecordMeets, meets16, meets17, meets18, meets19, meets20, meets25, meets32, Meets, meets15, meetsRecord}
-use Rattle.format.specs.Exam.{examinePattern, passing, examining, examine}
+use Rattle.format.specs.Exam.{examinePattern, passing, examining, examine, examineSingle, passingSingle, examiningSingle, examineOne}
 use Rattle.format.specs.Run.{kind as due-kind, choices, following, Followed, follow, laidFrames, frameTable}
-use Rattle.format.proofs.Answers.{ok-refused, either, Refuses, NotZero, weaker, answered, tested, chained}
-use Rattle.runs.proofs.Refusal.{refusal-met}
-use Rattle.laws.proofs.Numbers.{Among, readingNumbers, loadNumbers, conditionNumbers, examineNumbers, followNumbers, further, above-zero}
+use Rattle.format.proofs.Answers.{ok-refused, refused-same, either, Refuses, NotZero, weaker, answered, tested, chained}
+use Rattle.runs.proofs.Refusal.{single-met, refusal-met}
+use Rattle.laws.proofs.Exact.{by-number}
+use Rattle.laws.proofs.Numbers.{Among, readingNumbers, loadNumbers, recordNumbers, conditionNumbers, examineNumbers, singleNumbers, followNumbers, within, further, above-zero}
 use Rattle.laws.proofs.Endings.{reading-ends}
 use Rattle.laws.proofs.Demand3.{choices-21}
 
@@ -65,7 +64,7 @@ laid-refuses m R (ok c) r = tt
 laid-refuses m R (refused e) r = r
 
 -- a condition's number
-record-among : (q : List ℕ) (r : Record) (n : ℕ) → RecordMeets q r n → Among conditionNumbers n
+pub record-among : (q : List ℕ) (r : Record) (n : ℕ) → RecordMeets q r n → Among recordNumbers n
 record-among q r n (meets16 x) = tt
 record-among q r n (meets17 x) = tt
 record-among q r n (meets18 x) = tt
@@ -76,7 +75,15 @@ record-among q r n (meets32 x) = tt
 
 meets-among : (q : List ℕ) (p : Pattern) (n : ℕ) → Meets q p n → Among conditionNumbers n
 meets-among q p n (meets15 x) = tt
-meets-among q p n (meetsRecord s) = record-among q (recAt p (s .rec)) n (s .holds)
+meets-among q p n (meetsRecord s) = further recordNumbers conditionNumbers tt n (record-among q (recAt p (s .rec)) n (s .holds))
+
+-- and the number of a single record
+single-among : (q : List ℕ) (i : ℕ) (p : Pattern) (n : ℕ) → examineSingle q i p ≡ suc n → Among (22 ∷ recordNumbers) (suc n)
+single-among q i p n e =
+    elim (single-met q i p n e) [
+      | inl h ↦ subst (Among (22 ∷ recordNumbers)) (h .0) tt
+      | inr h ↦ further recordNumbers (22 ∷ recordNumbers) tt (suc n) (record-among q (recAt p i) (suc n) (h .1))
+    ]
 
 module _ (f : List ℕ) where
   loading-refuses : (m : Nine) (a : Allowance) → Refuses (Among loadNumbers) (loading f m a)
@@ -88,13 +95,15 @@ module _ (f : List ℕ) where
 
   pub passing-refuses : (q : List ℕ) (c : Content) → Refuses (Among conditionNumbers) (passing q f c)
   unfolding passing
-  passing-refuses q c = go (examinePattern q (patternOf f c)) refl
-    where
-      go : (k : ℕ) → examinePattern q (patternOf f c) ≡ k → Refuses (Among conditionNumbers) (cond (eqb k 0) (ok c) (refused k))
-      go zero e = tt
-      go (suc k) e =
-          let w : eqb (suc k) 0 ≡ false = ne-eqb (suc k) 0 (λ (x : suc k ≡ 0). omega arith) in
-          rw w (meets-among q (patternOf f c) (suc k) (refusal-met q (patternOf f c) k e))
+  passing-refuses q c =
+      let p = patternOf f c in
+      by-number c (examinePattern q p) (Refuses (Among conditionNumbers)) (λ _. tt) (λ n e. meets-among q p (suc n) (refusal-met q p n e))
+
+  pub single-refuses : (q : List ℕ) (i : ℕ) (c : Content) → Refuses (Among (22 ∷ recordNumbers)) (passingSingle q i f c)
+  unfolding passingSingle
+  single-refuses q i c =
+      let p = patternOf f c in
+      by-number c (examineSingle q i p) (Refuses (Among (22 ∷ recordNumbers))) (λ _. tt) (single-among q i p)
 
   -- a load
   module _ (m : Nine) (a : Allowance) where
@@ -109,13 +118,29 @@ module _ (f : List ℕ) where
     unfolding load
     load-zero e r = laid-zero m e (loading f m a) r
 
-  module _ (m : Nine) (a : Allowance) (q : List ℕ) where
-    examining-refuses : Refuses (Among examineNumbers) (examining f m a q)
-    unfolding examining
-    examining-refuses =
-        chained _ _ _ (loading f m a) (passing q f) (weaker _ _ _ (loading f m a) (loading-refuses m a) (further loadNumbers examineNumbers tt))
-        (λ c _. weaker _ _ _ (passing q f c) (passing-refuses q c) (further conditionNumbers examineNumbers tt))
+    -- what is made of a file that loads refuses by the load's numbers and its own,
+    bound-number : (ns : List ℕ) (k : Content → Answer Content) → ((c : Content) → Refuses (Among ns) (k c)) → (ms : List ℕ) → T (within loadNumbers ms) → T (within ns ms)
+        → (e : ℕ) → laid m (bind (loading f m a) k) .answer ≡ refused e → Among ms e
+    bound-number ns k h ms t u e r =
+        subst (Refuses (Among ms)) r
+        (laid-refuses m (Among ms) (bind (loading f m a) k)
+        (chained _ _ _ (loading f m a) k (weaker _ _ _ (loading f m a) (loading-refuses m a) (further loadNumbers ms t))
+        (λ c _. weaker _ _ _ (k c) (h c) (further ns ms u))))
 
+    -- and by one that no load has only where the file loads
+    pub behind-load : (k : Content → Answer Content) (n : ℕ) → ¬ Among loadNumbers n → laid m (bind (loading f m a) k) .answer ≡ refused n
+        → (c : Content) × (loading f m a ≡ ok c) × (k c ≡ refused n)
+    behind-load k n none-has e = by-load (loading f m a) refl
+      where
+        laid-number : (x : Answer Content) → laid m x .answer ≡ refused n → x ≡ refused n
+        laid-number (ok c) e = absurd (ok-refused (sym e))
+        laid-number (refused j) e = ap refused (refused-same e)
+
+        by-load : (x : Answer Content) → loading f m a ≡ x → (c : Content) × (loading f m a ≡ ok c) × (k c ≡ refused n)
+        by-load (ok c) l = (c, l, laid-number (k c) (rw l at e))
+        by-load (refused j) l = absurd (none-has (subst (Refuses (Among loadNumbers)) (l ∙ laid-number (refused j) (rw l at e)) (loading-refuses m a)))
+
+  module _ (m : Nine) (a : Allowance) (q : List ℕ) where
     -- follow, where its load is not refused
     pub behind-refuses : (c : Content) → loading f m a ≡ ok c → (n : ℕ) (bs : List ℕ) → Refuses (Among (14 ∷ 21 ∷ conditionNumbers)) (following f m a q n bs)
     unfolding following
@@ -136,8 +161,8 @@ module _ (f : List ℕ) where
 
     -- an examination
     pub examine-number : (e : ℕ) → examine f m a q .answer ≡ refused e → Among examineNumbers e
-    unfolding examine
-    examine-number e r = subst (Refuses (Among examineNumbers)) r (laid-refuses m (Among examineNumbers) (examining f m a q) examining-refuses)
+    unfolding examine examining
+    examine-number e r = bound-number m a conditionNumbers (passing q f) (passing-refuses q) examineNumbers tt tt e r
 
     pub examine-not-zero : NotZero (examine f m a q .answer)
     examine-not-zero e r = above-zero examineNumbers refl e (examine-number e r)
@@ -145,6 +170,23 @@ module _ (f : List ℕ) where
     pub examine-zero : (e : ℕ) → examine f m a q .answer ≡ refused e → Zero m (examine f m a q .tables)
     unfolding examine
     examine-zero e r = laid-zero m e (examining f m a q) r
+
+    -- i): that of "a single record, without 15"
+    module _ (i : ℕ) where
+      pub single-number : (e : ℕ) → examineOne f m a q i .answer ≡ refused e → Among singleNumbers e
+      unfolding examineOne examiningSingle
+      single-number e r = bound-number m a (22 ∷ recordNumbers) (passingSingle q i f) (single-refuses q i) singleNumbers tt tt e r
+
+      pub single-never-15 : ¬ (examineOne f m a q i .answer ≡ refused 15)
+      single-never-15 r = single-number 15 r
+
+      pub single-not-zero : NotZero (examineOne f m a q i .answer)
+      single-not-zero e r = above-zero singleNumbers refl e (single-number e r)
+
+      -- "a refusal leaves the tables as examination's does"
+      pub single-zero : (e : ℕ) → examineOne f m a q i .answer ≡ refused e → Zero m (examineOne f m a q i .tables)
+      unfolding examineOne
+      single-zero e r = laid-zero m e (examiningSingle f m a q i) r
 
     -- follow
     pub follow-number : (n : ℕ) (bs : List ℕ) (e : ℕ) → follow f m a q n bs .answer ≡ refused e → Among followNumbers e

@@ -1,14 +1,16 @@
 -- Paper 01's starred samples, as one table of the definitions, with some that it does not star, those of ident and size as paper 02's g) has them,
 -- constants as its d) reads them, parents as its a) has them, newer opcodes as its c) and prefixes as its b) do, all under the desktop's allowance
--- and with everything permitted, those of other allowances as its h) has them and of other lists as its n) does; and sample A as a file that passes.
+-- and with everything permitted, those of other allowances as its h) has them, of other lists as its n) and of single records as its i) does; and sample A
+-- as a file that passes.
 -- Assumes nothing.
-use Prim.Native.Nat.{ℕ, _*_, _/_, _%_}
+use Prim.Native.Nat.{ℕ, _*_, _/_, _%_, _<_}
+use native.Mathlib.Omega.{arith}
 use mathlib.Core.Path.{_≡_, refl}
 use mathlib.Core.Bool.{true, false}
 use mathlib.Core.List.{List, [], _∷_, _++_}
 use mathlib.Core.Option.{none, some}
 use lib.IntN.{pos, negsuc}
-use lib.ListN.{replicate, take, drop, set}
+use lib.ListN.{length, replicate, take, drop, set}
 use Rattle.format.specs.Bytes.{Answer, ok, refused, step, noZero, int64At}
 use Rattle.format.specs.Rows.{textRow, lineRow, recordWidth}
 use Rattle.format.specs.Insn.{Z, W, S, table, row, operands, opcode, rest, lastOf, jump, target, insn, fetchAs, fetch}
@@ -26,13 +28,15 @@ use Rattle.format.specs.Lookup.{recordWord, recordIn, rowIn, bytesIn, Constant,
 use Rattle.format.specs.Tree.{layout, whole, span, childOf, noParent, nodesFrom}
 use Rattle.format.specs.Pattern.{Record, patternOf, reach, lands}
 use Rattle.format.specs.Permitted.{permits, permittedAt, everything}
-use Rattle.format.specs.Exam.{FilePasses, stray, readable, below, allBelow, operandsBelow, rangeBelow, bounded, follows, firstAt, firstOf}
+use Rattle.format.specs.Exam.{FilePasses, ChangedAlone, stray, readable, below, allBelow, operandsBelow, rangeBelow, bounded, follows, firstAt, firstOf}
 use Rattle.format.specs.Exam.{exam16, exam32, exam1718, exam19, exam20, examineRecord, examineAll, examinePattern, passing, examining, examine}
+use Rattle.format.specs.Exam.{examineSingle, passingSingle, examiningSingle, examineOne}
 use Rattle.format.specs.Run.{Choice, frame, go-on, enter, caught, leave, childOperand, move, oneStep, runFrom, run, choicesFrom, choices, finished, stands}
 use Rattle.format.specs.Run.{standing, laidFrames, frameTable, following, follow}
 use Rattle.format.specs.Claim.{Claim}
 use Rattle.runs.proofs.Refusal.{passes-iff}
 use Rattle.laws.proofs.Demand3.{demand3}
+use Rattle.laws.proofs.Single.{changed-file}
 
 -- File A: header, an IREP section with one record, END
 abbrev pub fileA : List ℕ
@@ -116,6 +120,21 @@ visited n k = record { rows = lent n; visits = k }
 -- Paper 02, a): depth and parent of record i, once a file is loaded
 nodeIn : List ℕ → ℕ → List ℕ
 nodeIn f i = let t = load f twoRows desktop .tables .records in recordWord t i 19 ∷ recordWord t i 20 ∷ []
+
+-- Paper 02, i): two records with rlens 0 and 1, of which the second enters its child of this number and has none behind it
+childless : ℕ → List Record
+childless n =
+    alone (61 ∷ 0 ∷ []) ++ record { nregs = 2; rlen = 1; npool = 0; nsyms = 0; code = 98 ∷ 0 ∷ n ∷ 61 ∷ 0 ∷ []; handlers = []; lines = [] } ∷ []
+
+-- A edited in its only record: its first operand, at place 49, is not below nregs
+editedA : List ℕ
+editedA = set fileA 49 2
+
+only : (j : ℕ) → j < 1 → j ≡ 0
+only j h = omega arith
+
+only-one : 0 < 1
+only-one = omega arith
 
 record Table : Type 0 where
   a-loads : load fileA twoRows desktop .answer ≡ ok (unvisited (lent 1))
@@ -266,6 +285,18 @@ record Table : Type 0 where
   permitted-behind-high : examinePattern (set everything 61 0) (family (69 ∷ 2 ∷ [])) ≡ 32
   permitted-next-record : examineAll (set everything 61 0) (alone (17 ∷ 2 ∷ 118 ∷ []) ++ alone (61 ∷ 0 ∷ [])) ≡ 17
   permitted-unknown : examinePattern [] (alone (119 ∷ [])) ≡ 16
+  single-a : examineOne fileA twoRows desktop everything 0 ≡ load fileA twoRows desktop
+  single-a-missing : examineOne fileA twoRows desktop everything 1 .answer ≡ refused 22
+  single-end-missing : examineOne (endAlone 31 12) twoRows desktop everything 0 .answer ≡ refused 22
+  single-behind-load : examineOne fileA twoRows (allowance 63 1) everything 1 .answer ≡ refused 29
+  single-not-permitted : examineOne fileA twoRows desktop [] 0 .answer ≡ refused 32
+  single-tree : examinePattern everything (childless 0) ≡ 15
+  single-tree-first : examineSingle everything 0 (childless 0) ≡ 0
+  single-tree-second : examineSingle everything 1 (childless 0) ≡ 0
+  single-tree-missing : examineSingle everything 2 (childless 0) ≡ 22
+  single-child-high : examineSingle everything 1 (childless 1) ≡ 17
+  single-before-high : examineSingle everything 0 (childless 1) ≡ 0
+  single-others-permitted : examineSingle (set everything 98 0) 0 (childless 0) ≡ 0
   packed-two : packed (129 ∷ 1 ∷ []) 0 ≡ ok (step 129 2)
   packed-most : packed (255 ∷ 255 ∷ 255 ∷ 255 ∷ 15 ∷ []) 0 ≡ ok (step 4294967295 5)
   packed-dropped : packed (255 ∷ 255 ∷ 255 ∷ 255 ∷ 127 ∷ []) 0 ≡ ok (step 4294967295 5)
@@ -285,6 +316,10 @@ record Table : Type 0 where
   a-content : loading fileA twoRows desktop ≡ ok (fileReading fileA desktop .it)
   a-meets-none : examinePattern everything (patternOf fileA (fileReading fileA desktop .it)) ≡ 0
   a-passes : examine fileA twoRows desktop everything .answer ≡ ok (unvisited (lent 1))
+  a-edited : loading editedA twoRows desktop ≡ ok (fileReading editedA desktop .it)
+  a-edited-alone : ChangedAlone 0 (patternOf fileA (fileReading fileA desktop .it)) (patternOf editedA (fileReading editedA desktop .it))
+  a-one-record : 0 < length (patternOf fileA (fileReading fileA desktop .it))
+  a-edited-high : examineOne editedA twoRows desktop everything 0 .answer ≡ refused 17
   a-goes-on : follow fileA twoRows desktop everything 2 (0 ∷ []) .answer ≡ ok (stands (frame 0 2) none 1)
   a-frames : follow fileA twoRows desktop everything 5 (0 ∷ []) .frames ≡ 0 ∷ 2 ∷ 0 ∷ 0 ∷ 0 ∷ []
   a-finishes : follow fileA twoRows desktop everything 2 (0 ∷ 0 ∷ []) .answer ≡ ok finished
@@ -298,10 +333,10 @@ samples : Table
 unfolding table row operands opcode rest lastOf jump target fetchAs fetch packedFrom packed halve lineAt handler poolText symbolText bigInteger poolValue
     poolEntry counted headAt bodyAt recordAt recordsFrom irepSection walk visits noZero plainText nameEntry recordNames lvarSection fileHead mapEntry
     mapLines filesFrom debugRecord debugContent debugSection packedEntry endSection sectionAt sections fileRefusal fileReading fits ending loadingWithin load sized
-    endAlone lent twoRows nodeIn unvisited alone family oval fileD lentPool constantD fileM twoM noneM visited zeroInside recordIn rowIn bytesIn constantAt constantOf pool
+    endAlone lent twoRows nodeIn unvisited alone family oval childless editedA fileD lentPool constantD fileM twoM noneM visited zeroInside recordIn rowIn bytesIn constantAt constantOf pool
     rising layout span childOf nodesFrom reach lands stray readable below allBelow operandsBelow rangeBelow bounded comments form follows firstAt firstOf permits permittedAt
     exam16 exam32 exam1718 exam19 exam20 examineRecord examineAll examinePattern passing examining examine childOperand move oneStep runFrom choicesFrom standing
-    laidFrames frameTable following follow
+    laidFrames frameTable following follow examineSingle passingSingle examiningSingle examineOne
 samples = record {
   a-loads = refl;
   a-row = refl;
@@ -451,6 +486,18 @@ samples = record {
   permitted-behind-high = refl;
   permitted-next-record = refl;
   permitted-unknown = refl;
+  single-a = refl;
+  single-a-missing = refl;
+  single-end-missing = refl;
+  single-behind-load = refl;
+  single-not-permitted = refl;
+  single-tree = refl;
+  single-tree-first = refl;
+  single-tree-second = refl;
+  single-tree-missing = refl;
+  single-child-high = refl;
+  single-before-high = refl;
+  single-others-permitted = refl;
   packed-two = refl;
   packed-most = refl;
   packed-dropped = refl;
@@ -470,6 +517,10 @@ samples = record {
   a-content = refl;
   a-meets-none = refl;
   a-passes = refl;
+  a-edited = refl;
+  a-edited-alone = record { number = refl; others = λ j h other. absurd (other (only j h)); children = refl };
+  a-one-record = only-one;
+  a-edited-high = refl;
   a-goes-on = refl;
   a-frames = refl;
   a-finishes = refl;
@@ -488,3 +539,10 @@ a-file =
 
 pub a-claim : (cs : List Choice) → Claim fileA desktop everything (a-file .content) cs
 a-claim cs = demand3 fileA desktop everything a-file cs
+
+-- A is edited, so i)'s law of a changed file is about some file: the examination of A's record says what that of the whole file says
+a-changed : examine editedA twoRows desktop everything ≡ examineOne editedA twoRows desktop everything 0
+a-changed =
+    let c = fileReading fileA desktop .it in
+    let d = fileReading editedA desktop .it in
+    changed-file fileA desktop everything a-file twoRows c (samples .a-content) editedA twoRows d (samples .a-edited) 0 (samples .a-one-record) (samples .a-edited-alone)

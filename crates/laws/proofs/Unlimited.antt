@@ -16,7 +16,7 @@ use Rattle.format.specs.Debug.{debugSection}
 use Rattle.format.specs.File.{Content, content, isMark, endSection, once, afterIrep, nothing, identIsRite, statedSize, majorIs04}
 use Rattle.format.specs.Load.{Nine, recordsOf, tablesOf, ending, wordsOf, Loaded, laid}
 use Rattle.format.specs.Pattern.{patternOf}
-use Rattle.format.specs.Exam.{passing}
+use Rattle.format.specs.Exam.{passing, passingSingle}
 use Rattle.format.specs.Run.{choices, run, standing, frameTable, Ran, Followed}
 
 -- A record whose 16 bytes are there, with "ilen instruction bytes". "The next record starts at this start plus the stated size, wherever
@@ -100,6 +100,13 @@ examining f m q = bind (loading f m) (passing q f)
 -- what an examination answers, and what the tables hold afterwards: the rows used, as load does
 unfoldable pub examine : List ℕ → Nine → List ℕ → Loaded
 examine f m q = laid m (examining f m q)
+
+-- i): the same of a single record
+unfoldable pub examiningSingle : List ℕ → Nine → List ℕ → ℕ → Answer Content
+examiningSingle f m q i = bind (loading f m) (passingSingle q i f)
+
+unfoldable pub examineOne : List ℕ → Nine → List ℕ → ℕ → Loaded
+examineOne f m q i = laid m (examiningSingle f m q i)
 
 -- "Follow loads, tests its frame table, examines, reads the whole choice list for 21, then runs": over a frame table of n words.
 -- "14: .. follow's frame table has fewer rows than the file has records, tested after loading"

@@ -5,15 +5,15 @@ use Prim.Native.Nat.{ℕ, _/_}
 use mathlib.Core.Path.{_≡_}
 use mathlib.Core.Bool.{cond}
 use mathlib.Core.List.{List, [], _∷_}
-use lib.Dec.{leb, eqb}
+use lib.Dec.{ltb, leb, eqb}
 use lib.ListN.{length}
 use Rattle.format.specs.Bytes.{Answer, ok, refused, bind, onAnswer, refuse, first}
 use Rattle.format.specs.Allowance.{Allowance}
 use Rattle.format.specs.File.{Content, nothing}
 use Rattle.format.specs.Load.{Nine, Loaded, recordsOf, loading, tablesOf, wordsOf, laid}
 use Rattle.format.specs.Tree.{Whole, whole}
-use Rattle.format.specs.Pattern.{Record, Pattern, patternOf, rlens}
-use Rattle.format.specs.Exam.{Some, Bad16, Bad17, Bad18, Bad19, Bad20, Bad25, exam16, exam1718, exam19, exam20}
+use Rattle.format.specs.Pattern.{Record, Pattern, patternOf, recAt, rlens}
+use Rattle.format.specs.Exam.{Some, Bad16, Bad17, Bad18, Bad19, Bad20, Bad25, exam16, exam1718, exam19, exam20, unlessMet}
 use Rattle.format.specs.Run.{choices, run, standing, frameTable, Ran, Followed}
 
 -- condition n is met. "15: the tree is not whole."
@@ -59,6 +59,19 @@ examining f m a = bind (loading f m a) (passing f)
 -- what an examination answers, and what the tables hold afterwards: the rows used, as load does
 unfoldable pub examine : List ℕ → Nine → Allowance → Loaded
 examine f m a = laid m (examining f m a)
+
+-- i): "A call loads the file and examines a single record, without 15. A missing record is 22"
+unfoldable pub examineSingle : ℕ → Pattern → ℕ
+examineSingle i p = cond (ltb i (length p)) (examineRecord (recAt p i)) 22
+
+unfoldable pub passingSingle : ℕ → List ℕ → Content → Answer Content
+passingSingle i f c = unlessMet (examineSingle i (patternOf f c)) c
+
+unfoldable pub examiningSingle : List ℕ → Nine → Allowance → ℕ → Answer Content
+examiningSingle f m a i = bind (loading f m a) (passingSingle i f)
+
+unfoldable pub examineOne : List ℕ → Nine → Allowance → ℕ → Loaded
+examineOne f m a i = laid m (examiningSingle f m a i)
 
 -- "Follow loads, tests its frame table, examines, reads the whole choice list for 21, then runs": over a frame table of n words.
 -- "14: .. follow's frame table has fewer rows than the file has records, tested after loading"

@@ -1,29 +1,30 @@
 -- The examination is exact: it answers 0 exactly when none of 15 to 20, 25 and 32 is met, and a number that it answers is that of a condition that is met.
 -- Assumes nothing.
-use Prim.Native.Nat.{ℕ, zero, suc, _<_, suc-le-suc}
+use Prim.Native.Nat.{ℕ, zero, suc, _≤_, _<_, suc-le-suc}
 use native.Mathlib.Nat.{zero-add}
 use native.Mathlib.Omega.{arith}
-use mathlib.Core.Path.{_≡_, refl, sym, subst}
+use mathlib.Core.Path.{_≡_, refl, sym, subst, _∙_}
 use mathlib.Core.Logic.{_⊎_, inl, inr, _↔_}
 use mathlib.Core.Bool.{Bool, true, false, _&&_, not, cond}
 use mathlib.Core.List.{List, [], _∷_}
 use lib.Dec.{T, T-not, ltb, leb, nltb→le, nleb→lt}
 use lib.ListN.{length, getD}
+use borrow.Author.Tests.{ltb-true, ltb-false}
 use Rattle.format.specs.Rows.{LineRow}
 use Rattle.format.specs.Insn.{Flow, on, ends, jumps, may, flow, rowAt, next}
 use Rattle.format.specs.Line.{entry, rising}
 use Rattle.format.specs.Tree.{Whole, whole}
 use Rattle.format.specs.Pattern.{Record, Pattern, ilen, recAt, blank, begins, lands, rlens}
 use Rattle.format.specs.Exam.{leads, hasNext, hasTarget, stray, readable, bounded, follows}
-use Rattle.format.specs.Exam.{Bad16, Bad17, Bad18, Bad19, Bad20, Bad25, Bad32, Some}
+use Rattle.format.specs.Exam.{Bad16, Bad25, Bad32, Some}
 use Rattle.format.specs.Bytes.{refuse, first}
 use Rattle.format.specs.Permitted.{permittedAt}
 use Rattle.format.specs.Exam.{RecordMeets, meets16, meets17, meets18, meets19, meets20, meets25, meets32, RecordPasses, Meets, meets15, meetsRecord, Passes}
 use Rattle.format.specs.Exam.{firstAt, at16, at32, at1718}
-use Rattle.format.specs.Exam.{exam16, exam32, exam1718, exam19, exam20, examineRecord, examineAll, examinePattern}
+use Rattle.format.specs.Exam.{exam16, exam32, exam1718, exam19, exam20, examineRecord, examineAll, examinePattern, examineSingle}
 use Rattle.runs.proofs.Registers.{none-high, some-high}
 use Rattle.format.proofs.Table.{both}
-use Rattle.format.proofs.Answers.{first-zero, zero-first, refuse-zero, refuse-pass, first-hit, refuse-hit}
+use Rattle.format.proofs.Answers.{either, first-zero, zero-first, refuse-zero, refuse-pass, first-hit, refuse-hit}
 use Rattle.runs.proofs.Tests.{Hit, firstAt-hit, firstOf-hit}
 use Rattle.runs.proofs.Tree.{whole-iff}
 use Rattle.runs.proofs.Line.{mono}
@@ -177,7 +178,7 @@ module _ (q : List ℕ) (r : Record) (n : ℕ) where
       let w = falls-at (r .lines) (h .1) in
       same (h .0) (meets20 (record { i = w .0; given = w .1; falls = w .2 }))
 
-  hit-rec : examineRecord q r ≡ suc n → RecordMeets q r (suc n)
+  pub hit-rec : examineRecord q r ≡ suc n → RecordMeets q r (suc n)
   unfolding examineRecord
   hit-rec e = a (first-hit (exam16 (r .code)) (first (exam32 q (r .code)) (first (exam1718 r) (first (exam19 r) (exam20 r)))) n e)
     where
@@ -204,6 +205,28 @@ record-iff q r = (λ e. no-bad q r (good q r e) (permitting q r e), λ h. go h (
     go : RecordPasses q r → (k : ℕ) → examineRecord q r ≡ k → examineRecord q r ≡ 0
     go h zero e = e
     go h (suc k) e = absurd (h (suc k) (hit-rec q r k e))
+
+-- i): of record i of a pattern, its own examination; "A missing record is 22".
+module _ (q : List ℕ) (i : ℕ) (p : Pattern) where
+  pub single-by : (P : ℕ → Type 0) → (i < length p → P (examineRecord q (recAt p i))) → (length p ≤ i → P 22) → P (examineSingle q i p)
+  unfolding examineSingle
+  single-by P h g = either P (ltb i (length p)) _ _ (λ e. h (ltb-true i (length p) e)) (λ e. g (ltb-false i (length p) e))
+
+  pub single-inside : i < length p → examineSingle q i p ≡ examineRecord q (recAt p i)
+  single-inside h = single-by (λ (k : ℕ). k ≡ examineRecord q (recAt p i)) (λ _. refl) (λ g. absurd (omega arith))
+
+  -- It answers 0 exactly where the record is there and passes by itself.
+  pub single-iff : (examineSingle q i p ≡ 0) ↔ ((i < length p) × RecordPasses q (recAt p i))
+  single-iff = (
+    single-by (λ (k : ℕ). k ≡ 0 → (i < length p) × RecordPasses q (recAt p i)) (λ h e. (h, record-iff q (recAt p i) .0 e)) (λ _ e. absurd (omega arith)),
+    λ h. single-inside (h .0) ∙ record-iff q (recAt p i) .1 (h .1),
+  )
+
+  -- another number is 22 where it is missing, else that of a condition that the record meets
+  pub single-met : (n : ℕ) → examineSingle q i p ≡ suc n → ((22 ≡ suc n) × (length p ≤ i)) ⊎ ((i < length p) × RecordMeets q (recAt p i) (suc n))
+  single-met n =
+      single-by (λ (k : ℕ). k ≡ suc n → ((22 ≡ suc n) × (length p ≤ i)) ⊎ ((i < length p) × RecordMeets q (recAt p i) (suc n)))
+      (λ h e. inr (h, hit-rec q (recAt p i) n e)) (λ h e. inl (e, h))
 
 hit-all : (q : List ℕ) (rs : List Record) (n : ℕ) → examineAll q rs ≡ suc n → Some (λ (r : Record). RecordMeets q r (suc n)) rs
 unfolding examineAll
