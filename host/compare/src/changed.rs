@@ -66,12 +66,15 @@ pub struct Changed {
     pub record: u32,
 }
 
-/// A change of a file that is read so; none where it does not load then, or differs in more than a record.
+/// A change of a file that is read so; none where nothing is changed, or it does not load then, or differs in more than a record.
 pub fn any(file: &[u8], rows: &Rows, rng: &mut Rng) -> Option<Changed> {
     let records = &rows.records.rows;
     let number = rng.below(records.len());
     let change = rng.pick(&CHANGES);
     let changed = made(change, file, rows, records.get(number)?, rng);
+    if changed == file {
+        return None;
+    }
     let reading = read_all(&changed);
     reading.end.ok()?;
     let record = differing(&kept(file, rows), &kept(&changed, &reading.rows), number)?;
@@ -119,43 +122,20 @@ fn differing(before: &[Kept], after: &[Kept], other: usize) -> Option<usize> {
 
 /// The file with a change in a record, or anywhere.
 fn made(change: Change, file: &[u8], rows: &Rows, record: &Record, rng: &mut Rng) -> Vec<u8> {
-    let parts = Parts::of(rows, record);
+    let start = record.place as usize - 16;
+    let [handlers, constants, symbols] = lists(rows, record);
     match change {
         Change::InPlace => flawed(file, Rng::new(rng.next(), 0)),
-        Change::Locals => with_field(file, parts.start + 4, record.nlocals, rng),
-        Change::Registers => with_field(file, parts.start + 6, record.nregs, rng),
-        Change::Code => other_code(file, &parts, record, rng),
+        Change::Locals => with_field(file, start + 4, record.nlocals, rng),
+        Change::Registers => with_field(file, start + 6, record.nregs, rng),
+        Change::Code => other_code(file, start, record, rng),
         Change::Handlers => {
             let target = rng.below(record.ilen as usize + 2);
             let handler = [&[0; 9][..], &be4(target)].concat();
-            other_list(
-                file,
-                &parts,
-                parts.start + 10,
-                &parts.handlers,
-                13,
-                &handler,
-                rng,
-            )
+            other_list(file, start, &handlers, &handler, rng)
         }
-        Change::Constants => {
-            let count = parts.handlers.end;
-            let all = parts.constants.len();
-            other_list(
-                file,
-                &parts,
-                count,
-                &parts.constants,
-                all,
-                &[2, 0, 0, 0],
-                rng,
-            )
-        }
-        Change::Symbols => {
-            let count = parts.constants.end;
-            let all = parts.symbols.len();
-            other_list(file, &parts, count, &parts.symbols, all, &[0, 0, 0], rng)
-        }
+        Change::Constants => other_list(file, start, &constants, &[2, 0, 0, 0], rng),
+        Change::Symbols => other_list(file, start, &symbols, &[0, 0, 0], rng),
         Change::Map => {
             let mut changed = file.to_vec();
             flaw_map(&mut changed, rng);
@@ -164,39 +144,35 @@ fn made(change: Change, file: &[u8], rows: &Rows, record: &Record, rng: &mut Rng
     }
 }
 
-/// Where a record and its lists stand in its file; a list's count stands before it, of handlers in the record's header.
-struct Parts {
-    start: usize,
-    code: Range<usize>,
-    handlers: Range<usize>,
-    constants: Range<usize>,
-    symbols: Range<usize>,
+/// Where a list of a record stands in its file, and where its count does.
+struct List {
+    count: usize,
+    items: Range<usize>,
 }
 
-impl Parts {
-    fn of(rows: &Rows, record: &Record) -> Parts {
-        let place = record.place as usize;
-        let code = place..place + record.ilen as usize;
-        let handlers = code.end..code.end + 13 * record.clen as usize;
-        let first_constant = handlers.end + 2;
-        let constants = record.pool.of(&rows.pool.rows);
-        // A text has a zero behind it.
-        let constants_end = constants.last().map_or(first_constant, |row| {
-            (row.place + row.length) as usize + usize::from(is_string(row))
-        });
-        let first_symbol = constants_end + 2;
-        let symbols = record.symbols.of(&rows.symbols.rows);
-        let symbols_end = symbols
-            .last()
-            .map_or(first_symbol, |row| (row.place + row.length) as usize + 1);
-        Parts {
-            start: place - 16,
-            code,
-            handlers,
-            constants: first_constant..constants_end,
-            symbols: first_symbol..symbols_end,
-        }
-    }
+/// The handlers, whose count is in the record's header, the constants and the symbols of a record.
+fn lists(rows: &Rows, record: &Record) -> [List; 3] {
+    let place = record.place as usize;
+    let code_end = place + record.ilen as usize;
+    let handlers_end = code_end + 13 * record.clen as usize;
+    let constants = record.pool.of(&rows.pool.rows);
+    // A text has a zero behind it.
+    let constants_end = constants.last().map_or(handlers_end + 2, |row| {
+        (row.place + row.length) as usize + usize::from(is_string(row))
+    });
+    let symbols = record.symbols.of(&rows.symbols.rows);
+    let symbols_end = symbols.last().map_or(constants_end + 2, |row| {
+        (row.place + row.length) as usize + 1
+    });
+    let list = |count: usize, first: usize, end: usize| List {
+        count,
+        items: first..end,
+    };
+    [
+        list(place - 6, code_end, handlers_end),
+        list(handlers_end, handlers_end + 2, constants_end),
+        list(constants_end, constants_end + 2, symbols_end),
+    ]
 }
 
 /// Another number for a field of two bytes.
@@ -227,7 +203,7 @@ fn spliced(file: &[u8], start: usize, at: Range<usize>, bytes: &[u8]) -> Vec<u8>
 }
 
 /// An instruction more, before another or last, or one less.
-fn other_code(file: &[u8], parts: &Parts, record: &Record, rng: &mut Rng) -> Vec<u8> {
+fn other_code(file: &[u8], start: usize, record: &Record, rng: &mut Rng) -> Vec<u8> {
     let steps = steps(file, record);
     let step = rng.pick(&steps);
     let end = record.ilen as usize;
@@ -240,29 +216,21 @@ fn other_code(file: &[u8], parts: &Parts, record: &Record, rng: &mut Rng) -> Vec
         _ => (end..end, vec![opcode, 0, 0, 0, STOP]),
     };
     let length = end + bytes.len() - at.len();
-    let place = parts.code.start;
-    let mut changed = spliced(file, parts.start, place + at.start..place + at.end, &bytes);
-    overwrite(&mut changed, parts.start + 12, &be4(length));
+    let place = record.place as usize;
+    let mut changed = spliced(file, start, place + at.start..place + at.end, &bytes);
+    overwrite(&mut changed, start + 12, &be4(length));
     changed
 }
 
-/// A list of a record with an item more at its start, or without its first bytes: so many, of one item or of all.
-fn other_list(
-    file: &[u8],
-    parts: &Parts,
-    count: usize,
-    list: &Range<usize>,
-    first: usize,
-    item: &[u8],
-    rng: &mut Rng,
-) -> Vec<u8> {
-    let number = u16::from_be_bytes([file[count], file[count + 1]]);
-    let (at, bytes, number) = match rng.one_in(2) || list.is_empty() {
-        true => (list.start..list.start, item, number.wrapping_add(1)),
-        false if first == list.len() => (list.clone(), &[][..], 0),
-        false => (list.start..list.start + first, &[][..], number - 1),
+/// A list of a record with an item more at its start, or without any.
+fn other_list(file: &[u8], start: usize, list: &List, item: &[u8], rng: &mut Rng) -> Vec<u8> {
+    let List { count, items } = list;
+    let number = u16::from_be_bytes([file[*count], file[count + 1]]);
+    let (at, bytes, number) = match rng.one_in(2) || items.is_empty() {
+        true => (items.start..items.start, item, number.wrapping_add(1)),
+        false => (items.clone(), &[][..], 0),
     };
-    let mut changed = spliced(file, parts.start, at, bytes);
-    overwrite(&mut changed, count, &number.to_be_bytes());
+    let mut changed = spliced(file, start, at, bytes);
+    overwrite(&mut changed, *count, &number.to_be_bytes());
     changed
 }

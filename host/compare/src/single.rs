@@ -26,7 +26,7 @@ pub struct Counts {
     wholes: BTreeMap<Refusal, [u64; 2]>,
     /// Files that passed and were changed in one record, by their number then.
     changed: BTreeMap<Change, BTreeMap<Refusal, u64>>,
-    /// Changed files that do not load, or differ in more than a record.
+    /// Changes of nothing, and changed files that do not load or differ in more than a record.
     changed_otherwise: u64,
 }
 
