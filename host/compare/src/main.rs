@@ -51,7 +51,7 @@ compare file PATH..                           these files
 compare fetch [--seed S]                      every first byte with every length
 compare line [--maps N] [--seed S]            maps and positions, falling ones too
 compare lookup [--tables N] [--seed S]        lookups in the tables of loads and in any tables
-compare examine [--files N] [--seed S]        examinations of the corpus, of chosen and of generated files
+compare examine [--files N] [--seed S]        examinations of the corpus, of chosen and of generated files, whole and of single records
 compare follow [--files N] [--seed S]         chosen runs, and runs along any choices
 compare store --seed S --count N --calls FILE --lookups FILE
                                               writes stored reference answers
