@@ -1,4 +1,4 @@
-//! Times of load, examine and follow beside those of the original's load, on the same files in one run.
+//! Times of load, examine and follow beside those of the original's load, and of single records beside whole files, on the same files in one run.
 //!
 //! Every figure is a median over rounds in which all calls take turns, so that other work on the machine meets all alike.
 
@@ -28,6 +28,8 @@ fn main() {
     ladder_of_sizes(rounds);
     hostile_files();
     hostile_files_for_lists();
+    single_records(rounds);
+    hostile_single_records();
 }
 
 /// The files of the corpus that pass and that the original loads too, or the sample where there is no corpus.
@@ -154,7 +156,7 @@ fn table(files: &[Vec<u8>], rounds: usize) {
     let times = medians(&mut subjects, rounds);
     println!("| call | microseconds | times the original's speed |\n|---|---|---|");
     for ((name, _), time) in subjects.iter().zip(&times) {
-        let ratio = times[0].as_secs_f64() / time.as_secs_f64();
+        let ratio = ratio(times[0], *time);
         println!("| {name} | {:.1} | {ratio:.2} |", micros(*time));
     }
     println!();
@@ -249,6 +251,85 @@ fn hostile_files_for_lists() {
             );
         }
     }
+}
+
+/// Times single records of real files beside the whole files.
+fn single_records(rounds: usize) {
+    println!("\n## Single records\n");
+    println!("A record by itself beside the whole file, over the same tables again.\n");
+    let files = real();
+    println!(
+        "{} real files, one behind the other; {rounds} rounds.\n",
+        files.len()
+    );
+    println!("| examined of each | microseconds | times the whole's speed |\n|---|---|---|");
+    let times = whole_and_records(&files, rounds);
+    let names = ["whole file", "first record", "middle record", "last record"];
+    for (name, time) in names.iter().zip(&times) {
+        let ratio = ratio(times[0], *time);
+        println!("| {name} | {:.1} | {ratio:.2} |", micros(*time));
+    }
+}
+
+/// Times single records of hostile files that pass beside the whole files.
+fn hostile_single_records() {
+    println!("\nHostile files that pass, each with 1,024 records; medians of five.\n");
+    println!(
+        "| file | whole | record 0 | record 512 | record 1,023 | times the whole's speed, the slowest |\n|---|---|---|---|---|---|"
+    );
+    for (name, file) in hostile::files() {
+        if blotheath::examine(&file).is_err() {
+            continue;
+        }
+        let times = whole_and_records(&[file], 5);
+        let slowest = times[1..].iter().max().copied().unwrap_or_default();
+        let ratio = ratio(times[0], slowest);
+        let shown = times
+            .iter()
+            .map(|time| format!("{:.2} ms", micros(*time) / 1e3));
+        let shown: Vec<String> = shown.collect();
+        println!("| {name} | {} | {ratio:.0} |", shown.join(" | "));
+    }
+}
+
+/// How many times as long one time is as another.
+fn ratio(one: Duration, other: Duration) -> f64 {
+    one.as_secs_f64() / other.as_secs_f64()
+}
+
+/// The medians of examining files whole, and their first, their middle and their last record by itself.
+fn whole_and_records(files: &[Vec<u8>], rounds: usize) -> Vec<Duration> {
+    let permitted = EVERYTHING.as_bytes();
+    let mut whole: Vec<Words> = files.iter().map(|file| lent_for(file)).collect();
+    let [mut first, mut middle, mut last] = [0; 3].map(|_| whole.clone());
+    let mut numbers = Vec::new();
+    for (file, words) in files.iter().zip(&mut whole) {
+        let records = blotheath::ffi::load(file, ALLOWANCE, words).rows[0];
+        numbers.push([0, records / 2, records - 1]);
+    }
+    let examine_each = |tables: &mut [Words], which: usize| {
+        for ((file, words), numbers) in files.iter().zip(tables).zip(&numbers) {
+            let record = numbers[which];
+            let examined =
+                blotheath::ffi::examine_record(file, ALLOWANCE, permitted, words, record);
+            timing::keep(examined);
+        }
+    };
+    let mut examine = || {
+        for (file, words) in files.iter().zip(&mut whole) {
+            timing::keep(blotheath::ffi::examine(file, ALLOWANCE, permitted, words));
+        }
+    };
+    let mut examine_first = || examine_each(&mut first, 0);
+    let mut examine_middle = || examine_each(&mut middle, 1);
+    let mut examine_last = || examine_each(&mut last, 2);
+    let mut subjects: Vec<Subject> = vec![
+        ("whole", &mut examine),
+        ("first", &mut examine_first),
+        ("middle", &mut examine_middle),
+        ("last", &mut examine_last),
+    ];
+    medians(&mut subjects, rounds)
 }
 
 /// The lists that a file is timed with.

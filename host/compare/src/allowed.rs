@@ -23,8 +23,31 @@ pub struct Call {
 pub enum Asked {
     Load,
     Examination,
+    /// An examination of a single record.
+    Record(u32),
     /// A run over so many words of frames along choices, and what it answers where it is not refused.
     Run(usize, Vec<u8>, [u32; 6]),
+}
+
+#[cfg(test)]
+impl Asked {
+    /// What the model answers.
+    pub fn by_model(
+        &self,
+        file: &[u8],
+        allowance: Allowance,
+        list: &[u8],
+        sizes: &Sizes,
+    ) -> model::Loaded {
+        match self {
+            Asked::Load => model::load(file, allowance, sizes),
+            Asked::Examination => model::examine(file, allowance, list, sizes),
+            Asked::Record(record) => model::examine_single(file, allowance, list, sizes, *record),
+            Asked::Run(words, choices, _) => {
+                model::follow(file, allowance, list, sizes, *words, choices).loaded
+            }
+        }
+    }
 }
 
 /// Bytes, records, rows of records and the refusal of a call.
@@ -101,7 +124,7 @@ fn three() -> Vec<u8> {
 
 /// So many records in few bytes: each but the last begins six bytes behind the one before it, and reads the sizes of those behind it as its own children
 /// and as the length of its code.
-fn many(records: usize) -> Vec<u8> {
+pub fn many(records: usize) -> Vec<u8> {
     let mut content = [0, 0, 0, 6, 0, 0].repeat(records - 1);
     // The last reaches into the section behind it, where the last but two finds its counts.
     content.extend([0, 0, 0, 28]);
@@ -200,7 +223,7 @@ fn with_third(third: Vec<u8>) -> Vec<u8> {
 }
 
 /// A record with a constant and these bytes at places from its end.
-fn with_constant(changes: &[(usize, u8)]) -> Vec<u8> {
+pub fn with_constant(changes: &[(usize, u8)]) -> Vec<u8> {
     let counts = Counts {
         constants: 1,
         ..BARE
@@ -480,15 +503,9 @@ mod tests {
     fn stored_calls_have_their_answers() {
         for (number, allowed) in files().iter().enumerate() {
             for (at, call) in allowed.calls.iter().enumerate() {
-                let (file, sizes) = (&allowed.file, call.sizes());
-                let loaded = match &call.asked {
-                    Asked::Load => model::load(file, call.allowance, &sizes),
-                    Asked::Examination => model::examine(file, call.allowance, &EVERYTHING, &sizes),
-                    Asked::Run(words, choices, _) => {
-                        let allowance = call.allowance;
-                        model::follow(file, allowance, &EVERYTHING, &sizes, *words, choices).loaded
-                    }
-                };
+                let (file, allowance) = (&allowed.file, call.allowance);
+                let asked = &call.asked;
+                let loaded = asked.by_model(file, allowance, &EVERYTHING, &call.sizes());
                 assert_eq!(loaded.refusal, call.refusal, "{number} {at}");
                 if loaded.refusal == 0 {
                     assert_eq!(loaded.rows[0], allowed.records, "{number} {at}");

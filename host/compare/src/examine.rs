@@ -12,6 +12,7 @@ use crate::oracle::BEYOND;
 use crate::prefixes::PREFIXES;
 use crate::registers;
 use crate::rng::Rng;
+use crate::single;
 use crate::subject::{Subject, answers_as, subjects};
 use model::{Allowance, EVERYTHING, OPCODES, Record, Refusal, Sizes, Step};
 use std::collections::{BTreeMap, BTreeSet};
@@ -21,6 +22,9 @@ pub const NOT_PASSING: [Refusal; 7] = [15, 16, 17, 18, 19, 20, 25];
 
 /// For how many lists of permitted opcodes each real file is examined.
 const REAL_LISTS: usize = 20;
+
+/// How often single records of each real file are examined, each time with a change of it.
+const REAL_SINGLES: usize = 40;
 
 /// `compare examine`
 pub fn compare(args: &Args) -> Result<(), Stop> {
@@ -35,6 +39,7 @@ pub fn compare(args: &Args) -> Result<(), Stop> {
     let mut by_number = BTreeMap::<Refusal, [u64; 3]>::new();
     let mut with = With::default();
     let mut listed = for_lists::Counts::default();
+    let mut single = single::Counts::default();
     for (i, (name, file)) in corpus.iter().enumerate() {
         let mut rng = Rng::new(seed, u64::MAX - i as u64);
         let mut beside = rng.beside();
@@ -44,6 +49,10 @@ pub fn compare(args: &Args) -> Result<(), Stop> {
             let counts = &mut for_lists::Counts::default();
             for_lists::one(&subjects, file, &mut beside, counts).map_err(wrong)?;
         }
+        for _ in 0..REAL_SINGLES {
+            let counts = &mut single::Counts::default();
+            single::one(&subjects, file, &mut beside, counts).map_err(wrong)?;
+        }
         if fitting != 0 {
             let why = format!("the answer is {fitting}, the corpus says that it passes");
             return Err(wrong(why));
@@ -51,8 +60,9 @@ pub fn compare(args: &Args) -> Result<(), Stop> {
     }
     let chosen = chosen_files(&subjects, seed)?;
     let chosen_lists = for_lists::chosen(&subjects, seed)?;
+    let chosen_singles = single::chosen(&subjects, seed)?;
     println!(
-        "seed {seed}, {} corpus files as described, {chosen} chosen ones and {chosen_lists} for lists with their answers, {files} generated",
+        "seed {seed}, {} corpus files as described, {chosen} chosen ones, {chosen_lists} for lists and {chosen_singles} for single records with their answers, {files} generated",
         corpus.len()
     );
     let generator = Generator {
@@ -65,6 +75,7 @@ pub fn compare(args: &Args) -> Result<(), Stop> {
         let wrong = |why: String| difference(&format!("seed {seed} index {index}"), &file, &why);
         let answers = one(&subjects, &file, &mut rng).map_err(wrong)?;
         for_lists::one(&subjects, &file, &mut beside, &mut listed).map_err(wrong)?;
+        single::one(&subjects, &file, &mut beside, &mut single).map_err(wrong)?;
         with.count(&file, answers[0]);
         for (side, answer) in answers.into_iter().enumerate() {
             by_number.entry(answer).or_default()[side] += 1;
@@ -83,6 +94,7 @@ pub fn compare(args: &Args) -> Result<(), Stop> {
     }
     with.print();
     listed.print();
+    single.print();
     println!("no difference");
     Ok(())
 }
@@ -98,6 +110,8 @@ fn chosen_files(subjects: &[Box<dyn Subject>], seed: u64) -> Result<usize, Stop>
         let mut rng = Rng::new(seed, u64::MAX / 2 + number as u64);
         let wrong = |why: String| difference(group, file, &why);
         let [answer, ..] = one(subjects, file, &mut rng).map_err(wrong)?;
+        let counts = &mut single::Counts::default();
+        single::one(subjects, file, &mut rng, counts).map_err(wrong)?;
         if answer != *right {
             return Err(wrong(format!("the answer is {answer}, not {right}")));
         }

@@ -1,14 +1,14 @@
-//! Examination for lists of permitted opcodes: every subject held against the model, and the model against the comparison's rule and the paper's laws.
+//! Examination for lists of permitted opcodes: every subject held on any lists, and the paper's laws.
 
 use crate::Stop;
 use crate::allowance::{self, Met, read_all};
-use crate::allowed::Asked;
+use crate::examination::{self, Examination};
 use crate::listed::{self, Listed};
-use crate::load::{at_work, difference, garbage, hex};
+use crate::load::hex;
 use crate::permitted::{self, FORBIDDEN, Seen, Sort};
 use crate::rng::Rng;
-use crate::subject::{Subject, answers_as};
-use model::{Allowance, EVERYTHING, Loaded, Reading, Refusal, Sizes};
+use crate::subject::Subject;
+use model::{Allowance, EVERYTHING, Reading, Refusal, Sizes};
 use std::collections::BTreeMap;
 
 /// The examinations of generated files.
@@ -59,92 +59,11 @@ impl Counts {
     }
 }
 
-/// An examination of a file that is read so: under which allowance, over which tables.
-struct Examination<'a> {
-    file: &'a [u8],
-    reading: &'a Reading,
-    allowance: Allowance,
-    sizes: Sizes,
-}
-
-impl Examination<'_> {
-    fn by_model(&self, list: &[u8]) -> Loaded {
-        model::examine(self.file, self.allowance, list, &self.sizes)
-    }
-
-    /// The number for a list by the comparison's rules.
-    fn right(&self, list: &[u8]) -> Refusal {
-        let met = Met::of(self.file, self.reading, self.allowance);
-        match met.over(&self.sizes) {
-            0 => permitted::Met::of(self.file, &self.reading.rows, list).number,
-            refusal => refusal,
-        }
-    }
-
-    /// The model's answer for a list, held against the rule and against its answer with everything permitted, and every subject against it.
-    fn held(
-        &self,
-        subjects: &[Box<dyn Subject>],
-        list: &[u8],
-        rng: &mut Rng,
-    ) -> Result<Loaded, String> {
-        let wrong = |why: String| {
-            let (allowance, words, list) = (self.allowance, self.sizes.0, hex(list));
-            format!("under {allowance:?} for {list} over {words:?} words {why}")
-        };
-        let answer = self.by_model(list);
-        let right = self.right(list);
-        if answer.refusal != right {
-            let why = format!("the model answers {}, not {right}", answer.refusal);
-            return Err(wrong(why));
-        }
-        // "With everything permitted the verdicts are the earlier ones", and so they are where 32 is not met.
-        if right != FORBIDDEN && answer != self.by_model(&EVERYTHING) {
-            let why = "the model answers otherwise than with everything permitted";
-            return Err(wrong(why.to_owned()));
-        }
-        for subject in subjects {
-            let mut tables = garbage(&self.sizes, rng);
-            let found = subject.examine(self.file, self.allowance, list, &mut tables);
-            answers_as(subject.name(), found, &tables, &answer).map_err(wrong)?;
-        }
-        Ok(answer)
-    }
-}
-
 /// Holds every subject on chosen files against their answers; how many examinations they are.
 pub fn chosen(subjects: &[Box<dyn Subject>], seed: u64) -> Result<usize, Stop> {
     let groups = listed::groups().into_iter().flat_map(|group| group.files);
     let files: Vec<Listed> = groups.chain(listed::everywhere()).collect();
-    let mut number = 0;
-    for listed in &files {
-        let file = &listed.file;
-        at_work(file);
-        let reading = read_all(file);
-        for call in &listed.calls {
-            if !matches!(call.asked, Asked::Examination) {
-                continue;
-            }
-            let examination = Examination {
-                file,
-                reading: &reading,
-                allowance: call.allowance,
-                sizes: Sizes::of_rows(reading.rows.used()),
-            };
-            let mut rng = Rng::new(seed, u64::MAX / 2 + number as u64);
-            let wrong = |why: String| difference("a chosen list", file, &why);
-            let held = examination.held(subjects, &call.list, &mut rng);
-            let answer = held.map_err(wrong)?.refusal;
-            if answer != call.refusal {
-                let (list, right) = (hex(&call.list), call.refusal);
-                return Err(wrong(format!(
-                    "for {list} the answer is {answer}, not {right}"
-                )));
-            }
-            number += 1;
-        }
-    }
-    Ok(number)
+    examination::chosen(subjects, &files, seed)
 }
 
 /// Holds every subject on one file for a list, most of the time on the desktop and over tables that fit, and where it passes for one with further opcodes.

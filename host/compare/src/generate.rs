@@ -113,11 +113,7 @@ impl Generator {
         if rng.one_in(3) {
             return self.file(seed, index).1;
         }
-        let mut maker = Maker {
-            rng,
-            odd: 0,
-            sound: true,
-        };
+        let mut maker = Maker::sound(rng);
         let debug = maker.rng.one_in(2);
         let mut file = if maker.rng.one_in(8) && !self.corpus.is_empty() {
             self.corpus[maker.rng.below(self.corpus.len())].clone()
@@ -143,17 +139,32 @@ impl Generator {
             1 if !self.corpus.is_empty() => self.corpus[rng.below(self.corpus.len())].clone(),
             _ => {
                 let debug = rng.one_in(2);
-                let mut maker = Maker {
-                    rng,
-                    odd: 0,
-                    sound: true,
-                };
+                let mut maker = Maker::sound(rng);
                 let mut file = maker.sound_file(debug);
                 maker.finish_header(&mut file);
                 file
             }
         }
     }
+}
+
+/// A byte of the DBG section, which may be of a position.
+pub fn flaw_map(file: &mut [u8], rng: &mut Rng) {
+    let Some(start) = crate::expected::section(file, b"DBG\0") else {
+        return;
+    };
+    let size = u32::from_be_bytes(file[start + 4..start + 8].try_into().unwrap()) as usize;
+    if size > 10 {
+        let at = start + rng.between(10, size - 1);
+        file[at] = rng.byte();
+    }
+}
+
+/// The file with one change where examination looks.
+pub fn flawed(file: &[u8], rng: Rng) -> Vec<u8> {
+    let mut file = file.to_vec();
+    Maker::sound(rng).flaw(&mut file);
+    file
 }
 
 /// Makes one file; each field is odd once in so many times, never where that is 0.
@@ -301,6 +312,15 @@ pub fn all_steps<'a>(file: &'a [u8], rows: &'a Rows) -> impl Iterator<Item = (&'
 }
 
 impl Maker {
+    /// Makes what passes.
+    fn sound(rng: Rng) -> Maker {
+        Maker {
+            rng,
+            odd: 0,
+            sound: true,
+        }
+    }
+
     fn odd(&mut self) -> bool {
         let times = self.odd;
         self.rng.one_in(times)
@@ -1532,7 +1552,7 @@ impl Maker {
                 file[place - 10..place - 8].copy_from_slice(&be2(registers));
             }
             27..=33 => self.flaw_range(file, &reading.rows),
-            _ => self.flaw_map(file),
+            _ => flaw_map(file, &mut self.rng),
         }
     }
 
@@ -1678,18 +1698,6 @@ impl Maker {
             _ => jump.next + self.rng.pick(&[32_767, 32_768, 65_535, 0]),
         };
         lead_jump(file, record, jump, target);
-    }
-
-    /// A byte of the DBG section, which may be of a position.
-    fn flaw_map(&mut self, file: &mut [u8]) {
-        let Some(start) = crate::expected::section(file, b"DBG\0") else {
-            return;
-        };
-        let size = u32::from_be_bytes(file[start + 4..start + 8].try_into().unwrap()) as usize;
-        if size > 10 {
-            let at = start + self.rng.between(10, size - 1);
-            file[at] = self.rng.byte();
-        }
     }
 
     /// A file with one to four changes.

@@ -1,43 +1,46 @@
 //! Files and calls on them for lists of permitted opcodes, with the answers of request n) of paper 02.
 
+use crate::allowance::read_all;
 use crate::allowed::Asked;
 use crate::generate::{be2, exact};
 use crate::permitted::{FORBIDDEN, LIST};
 use crate::prefixes::{PREFIXES, instruction, opcodes, widths};
 use crate::sample::{BARE, Counts, FINISHED, STOP};
 use crate::sample::{coded, file, file_a, record, stands_at, with_children};
-use model::{Allowance, EVERYTHING, OPCODES, Refusal};
+use model::{Allowance, EVERYTHING, OPCODES, RECORD_WORDS, Refusal, Sizes};
 
-const NOP: u8 = 0;
+pub const NOP: u8 = 0;
 const MOVE: u8 = 1;
 const LOADI: u8 = 3;
 const LOADNIL: u8 = 17;
 const JMP: u8 = 38;
-const CALL: u8 = 53;
+pub const CALL: u8 = 53;
 const RETURN: u8 = 61;
-const BLOCK: u8 = 98;
+pub const BLOCK: u8 = 98;
 const METHOD: u8 = 99;
 const OCLASS: u8 = 102;
 const CLASS: u8 = 103;
 const EXEC: u8 = 105;
-const EXT1: u8 = 115;
+pub const EXT1: u8 = 115;
 const EXT2: u8 = 116;
 const EXT3: u8 = 117;
 
 /// The first byte that is no opcode.
-const UNKNOWN: u8 = 119;
+pub const UNKNOWN: u8 = 119;
 
-/// A file, and calls on it over tables that fit.
+/// A file, and calls on it, over tables that fit where nothing else is said.
 pub struct Listed {
     pub file: Vec<u8>,
+    fitting: Sizes,
     pub calls: Vec<Call>,
 }
 
-/// A call under an allowance for a list of permitted opcodes.
+/// A call under an allowance for a list of permitted opcodes, over lent tables.
 pub struct Call {
     pub asked: Asked,
     pub allowance: Allowance,
     pub list: Vec<u8>,
+    pub sizes: Sizes,
     pub refusal: Refusal,
 }
 
@@ -48,9 +51,11 @@ pub struct Group {
 }
 
 impl Listed {
-    fn of(file: Vec<u8>) -> Listed {
+    pub fn of(file: Vec<u8>) -> Listed {
+        let fitting = Sizes::of_rows(read_all(&file).rows.used());
         Listed {
             file,
+            fitting,
             calls: Vec::new(),
         }
     }
@@ -60,6 +65,7 @@ impl Listed {
             asked,
             allowance: Allowance::DESKTOP,
             list: list.to_vec(),
+            sizes: self.fitting,
             refusal,
         });
         self
@@ -69,8 +75,13 @@ impl Listed {
         self.call(Asked::Load, list, refusal)
     }
 
-    fn examine(self, list: &[u8], refusal: Refusal) -> Listed {
+    pub fn examine(self, list: &[u8], refusal: Refusal) -> Listed {
         self.call(Asked::Examination, list, refusal)
+    }
+
+    /// An examination of a single record.
+    pub fn single(self, record: u32, list: &[u8], refusal: Refusal) -> Listed {
+        self.call(Asked::Record(record), list, refusal)
     }
 
     /// A run over so many words of frames that is refused.
@@ -85,8 +96,16 @@ impl Listed {
         self.call(asked, list, 0)
     }
 
+    /// Puts the last call over so many rows of records.
+    pub fn over(mut self, records: usize) -> Listed {
+        if let Some(call) = self.calls.last_mut() {
+            call.sizes.0[0] = records * RECORD_WORDS;
+        }
+        self
+    }
+
     /// Puts the last call under an allowance.
-    fn under(mut self, bytes: usize, records: u32) -> Listed {
+    pub fn under(mut self, bytes: usize, records: u32) -> Listed {
         let bytes = bytes as u32;
         if let Some(call) = self.calls.last_mut() {
             call.allowance = Allowance { bytes, records };
@@ -101,7 +120,7 @@ fn examined(file: Vec<u8>, list: &[u8], refusal: Refusal) -> Listed {
 }
 
 /// A list of so many bytes that says yes for all but these.
-fn all_but(length: usize, forbidden: &[u8]) -> Vec<u8> {
+pub fn all_but(length: usize, forbidden: &[u8]) -> Vec<u8> {
     let mut list = vec![1; length];
     for byte in forbidden {
         list[usize::from(*byte)] = 0;
@@ -251,7 +270,7 @@ fn halves() -> Vec<Listed> {
 }
 
 /// A record with this code and so many children, two registers and nothing else.
-fn with_registers(code: &[u8], children: u16) -> Vec<u8> {
+pub fn with_registers(code: &[u8], children: u16) -> Vec<u8> {
     let counts = Counts {
         registers: 2,
         children,
@@ -261,17 +280,17 @@ fn with_registers(code: &[u8], children: u16) -> Vec<u8> {
 }
 
 /// A file of this code.
-fn alone(code: &[u8]) -> Vec<u8> {
+pub fn alone(code: &[u8]) -> Vec<u8> {
     file(&[with_registers(code, 0)], &[])
 }
 
 /// A record of this code, and one of that.
-fn two(first: &[u8], second: &[u8]) -> Vec<u8> {
+pub fn two(first: &[u8], second: &[u8]) -> Vec<u8> {
     file(&[with_registers(first, 1), with_registers(second, 0)], &[])
 }
 
 /// A DBG section in which the lines of each record's map have these positions.
-fn map(records: &[[u8; 2]]) -> Vec<u8> {
+pub fn map(records: &[[u8; 2]]) -> Vec<u8> {
     let mut content = vec![0, 1, 0, 0];
     for positions in records {
         // One file of two lines, kind 1: positions and lines.
@@ -285,14 +304,14 @@ fn map(records: &[[u8; 2]]) -> Vec<u8> {
 }
 
 /// Code that meets 17, 18, 16 and 25.
-const PAST: [u8; 4] = [MOVE, 2, 0, CALL];
-const OUT: [u8; 4] = [JMP, 0, 9, CALL];
-const NO_OPCODE: [u8; 1] = [UNKNOWN];
-const STRAY: [u8; 2] = [CALL, EXT1];
+pub const PAST: [u8; 4] = [MOVE, 2, 0, CALL];
+pub const OUT: [u8; 4] = [JMP, 0, 9, CALL];
+pub const NO_OPCODE: [u8; 1] = [UNKNOWN];
+pub const STRAY: [u8; 2] = [CALL, EXT1];
 
 /// Code that meets nothing, without NOP and with it.
-const GOOD: [u8; 4] = [MOVE, 0, 1, CALL];
-const WITH_NOP: [u8; 2] = [NOP, CALL];
+pub const GOOD: [u8; 4] = [MOVE, 0, 1, CALL];
+pub const WITH_NOP: [u8; 2] = [NOP, CALL];
 
 /// Files that meet several numbers, for a list without NOP: "after 16 and 25 over that record, before any 17 there".
 fn orders() -> Vec<Listed> {
@@ -435,8 +454,6 @@ pub fn everywhere() -> Vec<Listed> {
 #[cfg(test)]
 mod tests {
     use super::*;
-    use crate::allowance::read_all;
-    use model::{Loaded, Sizes};
 
     #[test]
     fn opcodes_have_their_names() {
@@ -462,30 +479,15 @@ mod tests {
         assert_eq!(usize::from(UNKNOWN), OPCODES.len());
     }
 
-    /// What a call answers, over tables that fit.
-    fn answer(file: &[u8], call: &Call) -> Loaded {
-        let sizes = Sizes::of_rows(read_all(file).rows.used());
-        let (allowance, list) = (call.allowance, &call.list);
-        match &call.asked {
-            Asked::Load => model::load(file, allowance, &sizes),
-            Asked::Examination => model::examine(file, allowance, list, &sizes),
-            Asked::Run(words, choices, _) => {
-                model::follow(file, allowance, list, &sizes, *words, choices).loaded
-            }
-        }
-    }
-
     #[test]
     fn files_load_and_calls_have_their_answers() {
         let groups = groups().into_iter().flat_map(|group| group.files);
         for (number, listed) in groups.chain(everywhere()).enumerate() {
             assert_eq!(read_all(&listed.file).end, Ok(()), "{number}");
             for (at, call) in listed.calls.iter().enumerate() {
-                assert_eq!(
-                    answer(&listed.file, call).refusal,
-                    call.refusal,
-                    "{number} {at}"
-                );
+                let (asked, allowance) = (&call.asked, call.allowance);
+                let answer = asked.by_model(&listed.file, allowance, &call.list, &call.sizes);
+                assert_eq!(answer.refusal, call.refusal, "{number} {at}");
             }
         }
     }

@@ -5,7 +5,9 @@ mod allowed;
 mod args;
 #[cfg(feature = "port")]
 mod bench;
+mod changed;
 mod chosen;
+mod examination;
 mod examine;
 mod expected;
 mod fetch;
@@ -19,6 +21,8 @@ mod load;
 mod lookups;
 #[cfg(test)]
 mod mistaken_lists;
+#[cfg(test)]
+mod mistaken_singles;
 mod newer;
 mod oracle;
 mod parents;
@@ -30,6 +34,8 @@ mod quiet;
 mod registers;
 mod rng;
 mod sample;
+mod single;
+mod singled;
 mod store;
 mod subject;
 mod visits;
@@ -45,11 +51,12 @@ compare file PATH..                           these files
 compare fetch [--seed S]                      every first byte with every length
 compare line [--maps N] [--seed S]            maps and positions, falling ones too
 compare lookup [--tables N] [--seed S]        lookups in the tables of loads and in any tables
-compare examine [--files N] [--seed S]        examinations of the corpus, of chosen and of generated files
+compare examine [--files N] [--seed S]        examinations of the corpus, of chosen and of generated files, whole and of single records
 compare follow [--files N] [--seed S]         chosen runs, and runs along any choices
 compare store --seed S --count N --calls FILE --lookups FILE
                                               writes stored reference answers
-compare replay PATH..                         replays stored reference answers
+compare replay [--calls FILE] [--lookups FILE]
+                                              replays stored reference answers
 compare bench [--rounds N]                    times of the port's load and the original's, with the feature port
 
 BLOTHEATH_CORPUS names the folder of real files; ../shared/corpus beside the repository if it is not set.

@@ -126,7 +126,7 @@ pub struct Met {
 }
 
 impl Met {
-    /// What a loaded file meets for a list. What a record meets with everything permitted is the model's.
+    /// What a loaded file meets for a list.
     pub fn of(file: &[u8], rows: &Rows, list: &[u8]) -> Met {
         let records = &rows.records.rows;
         let rlens: Vec<u32> = records.iter().map(|record| record.rlen).collect();
@@ -136,18 +136,11 @@ impl Met {
                 record: None,
             };
         }
-        for (number, record) in records.iter().enumerate() {
-            let content = Content::of(file, record);
-            let at = |refusal| Met {
-                number: refusal,
-                record: Some(number),
-            };
-            // "after 16 and 25 over that record, before any 17 there"
-            if content.is_whole && !content.forbidden(list).is_empty() {
-                return at(FORBIDDEN);
-            }
-            if let Err(refusal) = model::examine_record(file, &EVERYTHING, rows, record) {
-                return at(refusal);
+        for (at, record) in records.iter().enumerate() {
+            let number = met_by(file, rows, record, list);
+            if number != 0 {
+                let record = Some(at);
+                return Met { number, record };
             }
         }
         Met {
@@ -155,6 +148,17 @@ impl Met {
             record: None,
         }
     }
+}
+
+/// What a record of a loaded file meets for a list. What it meets with everything permitted is the model's.
+pub fn met_by(file: &[u8], rows: &Rows, record: &Record, list: &[u8]) -> Refusal {
+    let content = Content::of(file, record);
+    // "after 16 and 25 over that record, before any 17 there"
+    if content.is_whole && !content.forbidden(list).is_empty() {
+        return FORBIDDEN;
+    }
+    let examined = model::examine_record(file, &EVERYTHING, rows, record);
+    examined.err().unwrap_or(0)
 }
 
 /// What is counted of an examination for a list.

@@ -27,6 +27,20 @@ impl Subject for Port {
         answer(ffi::examine(file, of(allowance), permitted, tables))
     }
 
+    fn examine_record(
+        &self,
+        file: &[u8],
+        allowance: Allowance,
+        permitted: &[u8],
+        tables: &mut Tables,
+        record: u32,
+    ) -> Answer {
+        let allowance = of(allowance);
+        answer(ffi::examine_record(
+            file, allowance, permitted, tables, record,
+        ))
+    }
+
     fn follow(
         &self,
         file: &[u8],

@@ -24,8 +24,11 @@
 //! 8 W0 .. W8 N R0 .. R9 S F LENGTH CHOICES
 //!                           a follow of these bytes along choices, over a frame table of F words: refusal's number or 0, then finished,
 //!                           record, offset, found, line, frames and four zeros, the sum of all lent words, the frame table's last
+//! 9 W0 .. W8 N R0 .. R8 V S REC
+//!                           in the file of calls: an examination of a single record of these bytes, as a load, and the record's number
 //! 9 LOOKUP REC INDEX N A B C D E
-//!                           a lookup in these bytes and nine tables: refusal's number or 0, then the fields of its answer, zeros behind them
+//!                           in the file of lookups: a lookup in these bytes and nine tables: refusal's number or 0, then the fields of its answer,
+//!                           zeros behind them
 //! 10 REC INDEX N KIND PLACE LENGTH INT FLOAT
 //!                           a constant's lookup; INT has eight bytes, high byte first, FLOAT eight, low byte first
 //! ```
@@ -33,7 +36,7 @@
 //! The nine tables are those of `model::NAMES`, always in this order, with rows of `model::ROW_WORDS` words. The first has at most three rows more
 //! than 1,024, the others 8,192 words.
 //! A frame table has at most 2,048 words. There are at most 512 words of kind 4. A load, an examination or a follow is under the allowance and for the
-//! list of the words that stand last, if they are two or more. The kinds 0 to 7 are Z, B, BB, S, BBB, BS, W, BSS.
+//! list of the words that stand last, if they are two or more, and so is an examination of a single record. The kinds 0 to 7 are Z, B, BB, S, BBB, BS, W, BSS.
 //! Lookups are numbered from 0: instructions, handler, pool, symbol, name, debug file, line.
 //! The sum begins with 0; for each word w, table by table, it becomes (sum * 65599 + w + 1) modulo 4294967291.
 //! A replay fills the lent words with anything but the answer before each call, so that the sum shows every word written.
@@ -62,6 +65,7 @@ use crate::oracle::{self, NO_ROW, Outcome, TOO_LONG};
 use crate::parents;
 use crate::rng::Rng;
 use crate::sample::{Examined, FINISHED, Run, file_a, stands_at};
+use crate::singled;
 use crate::subject::{Answer, Fetch, Follow, Found, LOOKUPS, Lookup, Model, Subject, subjects};
 use crate::visits;
 use model::{
@@ -94,6 +98,8 @@ const ONE_ROW: Sizes = Sizes(ROW_WORDS);
 const MOST_FRAMES: usize = 2_048;
 /// The most words of a stored item of words.
 const MOST_WORDS: usize = 512;
+/// The kind of an examination of a single record, in the file of calls.
+const SINGLE: u32 = 9;
 
 /// `compare store`
 pub fn write(args: &Args) -> Result<(), Stop> {
@@ -109,6 +115,7 @@ pub fn write(args: &Args) -> Result<(), Stop> {
     nested_samples(&mut calls).map_err(Stop::Difference)?;
     allowed_samples(&mut calls).map_err(Stop::Difference)?;
     listed_samples(&mut calls).map_err(Stop::Difference)?;
+    listed_group(&mut calls, &singled::group()).map_err(Stop::Difference)?;
     loads(&mut calls, seed, count as usize, &mut counts).map_err(Stop::Difference)?;
     examinable_files(&mut calls, seed)?;
     let mut lookups = Store::default();
@@ -496,7 +503,12 @@ fn allowed_samples(store: &mut Store) -> Result<(), String> {
 fn calls_under_allowances(store: &mut Store, allowed: &Allowed) -> Result<(), String> {
     for call in &allowed.calls {
         store.state(Terms::with_everything(call.allowance));
-        let right = (call.refusal, of_records(allowed.records));
+        let passed = Answer {
+            refusal: 0,
+            rows: of_records(allowed.records),
+            visits: 0,
+        };
+        let right = (call.refusal, passed);
         sample_call(store, &call.asked, &call.sizes(), &allowed.file, right)?;
     }
     store.state(Terms::default());
@@ -506,49 +518,65 @@ fn calls_under_allowances(store: &mut Store, allowed: &Allowed) -> Result<(), St
 /// Calls on files for lists of permitted opcodes, with the answers of request n).
 fn listed_samples(store: &mut Store) -> Result<(), String> {
     for group in listed::groups() {
-        for listed in &group.files {
-            let wrong = |why: String| format!("{}: {why}", group.name);
-            calls_for_lists(store, listed).map_err(wrong)?;
-        }
-        store.state(Terms::default());
-        store.bytes(6, group.name.as_bytes());
+        listed_group(store, &group)?;
     }
     Ok(())
 }
 
-/// A file, and calls on it for lists over tables that fit.
+/// Calls on the files of a group, with its answers.
+fn listed_group(store: &mut Store, group: &listed::Group) -> Result<(), String> {
+    for listed in &group.files {
+        let wrong = |why: String| format!("{}: {why}", group.name);
+        calls_for_lists(store, listed).map_err(wrong)?;
+    }
+    store.state(Terms::default());
+    store.bytes(6, group.name.as_bytes());
+    Ok(())
+}
+
+/// The calls of a group, as they are stored, and nothing else.
+#[cfg(test)]
+pub fn group_alone(group: &listed::Group) -> Vec<u8> {
+    let mut store = Store::default();
+    listed_group(&mut store, group).expect("calls have their answers");
+    store.item(0, []);
+    store.bytes
+}
+
+/// A file, and calls on it for lists.
 fn calls_for_lists(store: &mut Store, listed: &Listed) -> Result<(), String> {
-    let used = read_all(&listed.file).rows.used();
+    let rows = read_all(&listed.file).rows;
+    let passed = Answer {
+        refusal: 0,
+        rows: rows.used().map(|rows| rows as u32),
+        visits: rows.visits as u32,
+    };
     store.bytes(1, &listed.file);
     for call in &listed.calls {
         store.state(Terms {
             allowance: call.allowance,
             permitted: call.list.clone(),
         });
-        let right = (call.refusal, used.map(|rows| rows as u32));
-        let sizes = Sizes::of_rows(used);
-        sample_call(store, &call.asked, &sizes, &listed.file, right)?;
+        let right = (call.refusal, passed);
+        sample_call(store, &call.asked, &call.sizes, &listed.file, right)?;
     }
     Ok(())
 }
 
-/// A call on the file that stands last, without LVAR: refused, or with these rows.
+/// A call on the file that stands last: refused, or with what a load answers.
 fn sample_call(
     store: &mut Store,
     asked: &Asked,
     sizes: &Sizes,
     file: &[u8],
-    (refusal, used): (Refusal, [u32; 9]),
+    (refusal, passed): (Refusal, Answer),
 ) -> Result<(), String> {
     let is_refused = refusal != 0;
-    let right = Answer {
-        refusal,
-        rows: if is_refused { [0; 9] } else { used },
-        visits: 0,
-    };
+    let right = if is_refused { refused(refusal) } else { passed };
     match asked {
         Asked::Load => sample_again(store, 2, sizes, file, right),
         Asked::Examination => sample_again(store, 7, sizes, file, right),
+        Asked::Record(record) => sample_single(store, sizes, file, *record, right),
         Asked::Run(words, choices, numbers) => {
             let right = Follow {
                 refusal,
@@ -559,6 +587,15 @@ fn sample_call(
     }
 }
 
+/// What a call answers that is refused.
+fn refused(refusal: Refusal) -> Answer {
+    Answer {
+        refusal,
+        rows: [0; 9],
+        visits: 0,
+    }
+}
+
 /// A file that has nothing but records and names, loaded and examined over so many rows of records.
 fn tree_sample(store: &mut Store, file: &[u8], records: u32, right: Answer) -> Result<(), String> {
     let sizes = Sizes::of_rows(of_records(records).map(|rows| rows as usize));
@@ -566,11 +603,7 @@ fn tree_sample(store: &mut Store, file: &[u8], records: u32, right: Answer) -> R
     let rows = read_all(file).rows;
     let examined = match model::passes(file, &EVERYTHING, &rows) {
         Ok(()) => right,
-        Err(refusal) => Answer {
-            refusal,
-            rows: [0; 9],
-            visits: 0,
-        },
+        Err(refusal) => refused(refusal),
     };
     sample_again(store, 7, &sizes, file, examined)
 }
@@ -611,16 +644,38 @@ fn sample_again(
     file: &[u8],
     right: Answer,
 ) -> Result<(), String> {
+    answered(store, kind, sizes, right, |terms, tables| match kind {
+        2 => Model.load(file, terms.allowance, tables),
+        _ => Model.examine(file, terms.allowance, &terms.permitted, tables),
+    })
+}
+
+/// An examination of a single record of the file that stands last.
+fn sample_single(
+    store: &mut Store,
+    sizes: &Sizes,
+    file: &[u8],
+    record: u32,
+    right: Answer,
+) -> Result<(), String> {
+    answered(store, SINGLE, sizes, right, |terms, tables| {
+        Model.examine_record(file, terms.allowance, &terms.permitted, tables, record)
+    })?;
+    store.bytes.extend(record.to_be_bytes());
+    Ok(())
+}
+
+/// A call of a kind that answers so, over tables of these sizes.
+fn answered(
+    store: &mut Store,
+    kind: u32,
+    sizes: &Sizes,
+    right: Answer,
+    call: impl FnOnce(&Terms, &mut Tables) -> Answer,
+) -> Result<(), String> {
     replayable(sizes)?;
     let mut tables = garbage(sizes, &mut Rng::new(0, 0));
-    let Terms {
-        allowance,
-        ref permitted,
-    } = store.terms;
-    let answer = match kind {
-        2 => Model.load(file, allowance, &mut tables),
-        _ => Model.examine(file, allowance, permitted, &mut tables),
-    };
+    let answer = call(&store.terms, &mut tables);
     if answer != right {
         return Err(format!("a sample's answer is {answer:?}, not {right:?}"));
     }
@@ -1075,14 +1130,31 @@ fn maps(store: &mut Store, seed: u64) {
     store.bytes(6, b"line lookups");
 }
 
+/// What a file of stored answers has: each of the two has kinds of its own.
+#[derive(Debug, Clone, Copy, PartialEq, Eq)]
+pub enum Stored {
+    Calls,
+    Lookups,
+}
+
 /// `compare replay`
 pub fn replay(args: &Args) -> Result<(), Stop> {
-    args.only(&[]).map_err(Stop::Usage)?;
-    for path in &args.paths {
-        let bytes =
-            fs::read(path).map_err(|error| Stop::Usage(format!("{}: {error}", path.display())))?;
+    args.only(&["--calls", "--lookups"]).map_err(Stop::Usage)?;
+    let files = [
+        (args.text("--calls"), Stored::Calls),
+        (args.text("--lookups"), Stored::Lookups),
+    ];
+    if !args.paths.is_empty() || files.iter().all(|(path, _)| path.is_none()) {
+        let why = "replay takes --calls, --lookups or both";
+        return Err(Stop::Usage(why.to_owned()));
+    }
+    for (path, stored) in files {
+        let Some(path) = path else {
+            continue;
+        };
+        let bytes = fs::read(path).map_err(|error| Stop::Usage(format!("{path}: {error}")))?;
         for subject in subjects() {
-            let groups = replay_items(&*subject, &bytes)
+            let groups = replay_items(&*subject, stored, &bytes)
                 .map_err(|why| Stop::Difference(format!("{}: {why}", subject.name())))?;
             for (name, answers) in groups {
                 println!(
@@ -1145,15 +1217,20 @@ fn tables_of(words: &[u32]) -> Result<Tables, String> {
 }
 
 /// Replays stored answers with a subject; answers each group's name and number of answers.
-fn replay_items(subject: &dyn Subject, stored: &[u8]) -> Result<Vec<(String, usize)>, String> {
+pub fn replay_items(
+    subject: &dyn Subject,
+    stored: Stored,
+    bytes: &[u8],
+) -> Result<Vec<(String, usize)>, String> {
+    let all = bytes;
     let mut rng = Rng::new(0, 0);
-    let mut items = Items { left: stored };
+    let mut items = Items { left: all };
     let mut groups = Vec::new();
     let mut answers = 0;
     let mut bytes: &[u8] = &[];
     let mut map = Vec::new();
     loop {
-        let at = stored.len() - items.left.len();
+        let at = all.len() - items.left.len();
         let wrong =
             |answer: &dyn std::fmt::Debug| Err(format!("byte {at}: the answer is {answer:?}"));
         let kind = items.number()?;
@@ -1163,11 +1240,33 @@ fn replay_items(subject: &dyn Subject, stored: &[u8]) -> Result<Vec<(String, usi
                 let length = items.number()? as usize;
                 bytes = items.bytes(length)?;
             }
-            2 | 7 => {
+            9 | 10 if stored == Stored::Lookups => {
+                let lookup = match kind {
+                    9 => *LOOKUPS
+                        .get(items.number()? as usize)
+                        .ok_or("no such lookup")?,
+                    _ => Lookup::Pool,
+                };
+                let [record, index, refusal] = items.numbers()?;
+                let numbers = if lookup == Lookup::Pool {
+                    let [kind, place, length] = items.numbers()?.map(|number: u32| number.into());
+                    let int = u64::from_be_bytes(items.eight()?);
+                    let float = u64::from_le_bytes(items.eight()?);
+                    [kind, place, length, int, float]
+                } else {
+                    items.numbers()?.map(|number: u32| number.into())
+                };
+                let answer = subject.lookup(lookup, bytes, &tables_of(&map)?, record, index);
+                if answer != (Found { refusal, numbers }) {
+                    return wrong(&answer);
+                }
+                answers += 1;
+            }
+            2 | 7 | SINGLE => {
                 let sizes = Sizes(items.numbers()?.map(|words: u32| words as usize));
                 let refusal = items.number()?;
                 let rows = items.numbers()?;
-                let [visits, stored] = items.numbers()?;
+                let [visits, right_sum] = items.numbers()?;
                 let mut tables = garbage(&sizes, &mut rng);
                 let Terms {
                     allowance,
@@ -1175,7 +1274,11 @@ fn replay_items(subject: &dyn Subject, stored: &[u8]) -> Result<Vec<(String, usi
                 } = Terms::of(&map)?;
                 let answer = match kind {
                     2 => subject.load(bytes, allowance, &mut tables),
-                    _ => subject.examine(bytes, allowance, &permitted, &mut tables),
+                    7 => subject.examine(bytes, allowance, &permitted, &mut tables),
+                    _ => {
+                        let record = items.number()?;
+                        subject.examine_record(bytes, allowance, &permitted, &mut tables, record)
+                    }
                 };
                 let sum = sum(&tables, &[]);
                 let right = Answer {
@@ -1183,7 +1286,7 @@ fn replay_items(subject: &dyn Subject, stored: &[u8]) -> Result<Vec<(String, usi
                     rows,
                     visits,
                 };
-                if answer != right || sum != stored {
+                if answer != right || sum != right_sum {
                     return wrong(&(answer, sum));
                 }
                 answers += 1;
@@ -1225,7 +1328,7 @@ fn replay_items(subject: &dyn Subject, stored: &[u8]) -> Result<Vec<(String, usi
             }
             8 => {
                 let sizes = Sizes(items.numbers()?.map(|words: u32| words as usize));
-                let (numbers, stored) = (items.numbers()?, items.number()?);
+                let (numbers, right_sum) = (items.numbers()?, items.number()?);
                 let mut frames = vec![1; items.number()? as usize];
                 let length = items.number()? as usize;
                 let choices = items.bytes(length)?;
@@ -1243,30 +1346,8 @@ fn replay_items(subject: &dyn Subject, stored: &[u8]) -> Result<Vec<(String, usi
                     choices,
                 );
                 let sum = sum(&tables, &frames);
-                if (of_follow(&answer), sum) != (numbers, stored) {
+                if (of_follow(&answer), sum) != (numbers, right_sum) {
                     return wrong(&(answer, sum));
-                }
-                answers += 1;
-            }
-            9 | 10 => {
-                let lookup = match kind {
-                    9 => *LOOKUPS
-                        .get(items.number()? as usize)
-                        .ok_or("no such lookup")?,
-                    _ => Lookup::Pool,
-                };
-                let [record, index, refusal] = items.numbers()?;
-                let numbers = if lookup == Lookup::Pool {
-                    let [kind, place, length] = items.numbers()?.map(|number: u32| number.into());
-                    let int = u64::from_be_bytes(items.eight()?);
-                    let float = u64::from_le_bytes(items.eight()?);
-                    [kind, place, length, int, float]
-                } else {
-                    items.numbers()?.map(|number: u32| number.into())
-                };
-                let answer = subject.lookup(lookup, bytes, &tables_of(&map)?, record, index);
-                if answer != (Found { refusal, numbers }) {
-                    return wrong(&answer);
                 }
                 answers += 1;
             }
@@ -1283,6 +1364,23 @@ mod tests {
         let mut tables: Tables = Default::default();
         tables[8] = words.to_vec();
         tables
+    }
+
+    /// What the model answers to stored calls.
+    fn replayed(bytes: &[u8]) -> Result<Vec<(String, usize)>, String> {
+        replay_items(&Model, Stored::Calls, bytes)
+    }
+
+    /// Holds that a replay sees every change of numbers: places, and how many stand there one behind the other.
+    fn sees_every_number(stored: Stored, bytes: &[u8], places: &[(usize, usize)]) {
+        for (at, numbers) in places {
+            for number in 0..*numbers {
+                let mut changed = bytes.to_vec();
+                changed[at + 4 * number + 3] ^= 1;
+                let replayed = replay_items(&Model, stored, &changed);
+                assert!(replayed.is_err(), "{at} {number}");
+            }
+        }
     }
 
     #[test]
@@ -1315,14 +1413,14 @@ mod tests {
         store.item(0, []);
         let bytes = store.bytes;
         let groups = Ok(vec![("all".to_owned(), 4)]);
-        assert_eq!(replay_items(&Model, &bytes), groups);
+        assert_eq!(replayed(&bytes), groups);
         let [load, fetch, line] = [8, 109, 157];
         for place in [load, load + 40, load + 80, load + 84, fetch + 4, line + 12] {
             let mut changed = bytes.clone();
             changed[place + 3] ^= 1;
-            assert!(replay_items(&Model, &changed).is_err(), "{place}");
+            assert!(replayed(&changed).is_err(), "{place}");
         }
-        assert!(replay_items(&Model, &bytes[..bytes.len() - 4]).is_err());
+        assert!(replayed(&bytes[..bytes.len() - 4]).is_err());
     }
 
     #[test]
@@ -1352,14 +1450,14 @@ mod tests {
         store.item(0, []);
         let bytes = store.bytes;
         let groups = Ok(vec![("all".to_owned(), 5)]);
-        assert_eq!(replay_items(&Model, &bytes), groups);
+        assert_eq!(replayed(&bytes), groups);
         // The desktop's has no words, each other one two, the bytes' before the records'.
         let between = |call: usize| calls[call] - calls[call - 1];
         assert_eq!([1, 2, 3, 4].map(between), [104, 104, 104, 96]);
         for (call, before, other) in [(1, 8, 63), (2, 8, 64), (1, 4, 0), (3, 4, 1)] {
             let mut changed = bytes.clone();
             changed[calls[call] - before + 3] = other;
-            assert!(replay_items(&Model, &changed).is_err(), "{call} {before}");
+            assert!(replayed(&changed).is_err(), "{call} {before}");
         }
     }
 
@@ -1417,7 +1515,7 @@ mod tests {
         store.item(0, []);
         let bytes = store.bytes;
         let groups = Ok(vec![("all".to_owned(), 5)]);
-        assert_eq!(replay_items(&Model, &bytes), groups);
+        assert_eq!(replayed(&bytes), groups);
         // The list's bytes stand before the call, two bytes of zeros behind them.
         let list = calls[0] - 64;
         for (place, other) in [
@@ -1428,16 +1526,16 @@ mod tests {
         ] {
             let mut changed = bytes.clone();
             changed[place] = other;
-            assert!(replay_items(&Model, &changed).is_err(), "{place}");
+            assert!(replayed(&changed).is_err(), "{place}");
         }
         let mut same = bytes.clone();
         same[list + 17] = 255;
         same[list + 62] = 1;
-        assert_eq!(replay_items(&Model, &same), groups);
+        assert_eq!(replayed(&same), groups);
     }
 
     #[test]
-    fn a_replay_sees_every_number_of_examination_follow_and_lookup() {
+    fn a_replay_sees_every_number_of_examination_and_follow() {
         let file = file_a();
         let sizes = Sizes::of_rows([1, 0, 0, 0, 0, 0, 0, 0, 0]);
         let loaded = model::load(&file, Allowance::DESKTOP, &sizes);
@@ -1446,7 +1544,16 @@ mod tests {
         let call = store.bytes.len();
         let end = sum(&loaded.tables, &[]);
         store.call(7, &sizes, of_load(&Answer::of(&loaded)), end);
+        let single = store.bytes.len();
+        let right = Answer::of(&loaded);
+        sample_single(&mut store, &sizes, &file, 0, right).unwrap();
+        let missing = store.bytes.len();
+        sample_single(&mut store, &sizes, &file, 1, refused(22)).unwrap();
         let run = store.bytes.len();
+        assert_eq!(
+            [single - call, missing - single, run - missing],
+            [88, 92, 92]
+        );
         // Go on once: the frame (0, 2).
         let end = sum(&loaded.tables, &[0, 2]);
         store.call(8, &sizes, [0, 0, 0, 2, 0, 0, 1, 0, 0, 0, 0], end);
@@ -1455,6 +1562,22 @@ mod tests {
         let end = sum(&loaded.tables, &[0, 0]);
         store.call(8, &sizes, [0, 1, 0, 0, 0, 0, 0, 0, 0, 0, 0], end);
         store.bytes.extend([0, 0, 0, 2, 0, 0, 0, 2, 0, 0]);
+        store.bytes(6, b"all");
+        store.item(0, []);
+        let groups = Ok(vec![("all".to_owned(), 5)]);
+        assert_eq!(replayed(&store.bytes), groups);
+        let answers = [call, run, finished, single, missing].map(|at| (at + 40, 12));
+        let records = [single, missing].map(|at| (at + 88, 1));
+        let places = [&answers[..], &records].concat();
+        sees_every_number(Stored::Calls, &store.bytes, &places);
+    }
+
+    #[test]
+    fn a_replay_sees_every_number_of_lookups() {
+        let file = file_a();
+        let sizes = Sizes::of_rows([1, 0, 0, 0, 0, 0, 0, 0, 0]);
+        let loaded = model::load(&file, Allowance::DESKTOP, &sizes);
+        let mut store = Store::default();
         lookups_in(
             &mut store,
             &file,
@@ -1465,19 +1588,10 @@ mod tests {
         let looked = pool - 40;
         store.bytes(6, b"all");
         store.item(0, []);
+        let groups = Ok(vec![("all".to_owned(), 2)]);
         let bytes = store.bytes;
-        let groups = Ok(vec![("all".to_owned(), 5)]);
-        assert_eq!(replay_items(&Model, &bytes), groups);
-        let answers = [call, run, finished].map(|at| (at + 40, 12));
-        for (at, numbers) in answers
-            .into_iter()
-            .chain([(looked + 16, 6), (pool + 12, 8)])
-        {
-            for number in 0..numbers {
-                let mut changed = bytes.clone();
-                changed[at + 4 * number + 3] ^= 1;
-                assert!(replay_items(&Model, &changed).is_err(), "{at} {number}");
-            }
-        }
+        assert_eq!(replay_items(&Model, Stored::Lookups, &bytes), groups);
+        assert!(replayed(&bytes).is_err());
+        sees_every_number(Stored::Lookups, &bytes, &[(looked + 16, 6), (pool + 12, 8)]);
     }
 }

@@ -99,6 +99,16 @@ pub trait Subject {
         tables: &mut Tables,
     ) -> Answer;
 
+    /// Examines a single record in the same way.
+    fn examine_record(
+        &self,
+        file: &[u8],
+        allowance: Allowance,
+        permitted: &[u8],
+        tables: &mut Tables,
+        record: u32,
+    ) -> Answer;
+
     /// Follows choices over lent tables and a frame table.
     fn follow(
         &self,
@@ -136,10 +146,7 @@ impl Subject for Model {
     }
 
     fn load(&self, file: &[u8], allowance: Allowance, tables: &mut Tables) -> Answer {
-        let loaded = model::load(file, allowance, &lent(tables));
-        let answer = Answer::of(&loaded);
-        *tables = loaded.tables;
-        answer
+        give(model::load(file, allowance, &lent(tables)), tables)
     }
 
     fn examine(
@@ -150,9 +157,19 @@ impl Subject for Model {
         tables: &mut Tables,
     ) -> Answer {
         let loaded = model::examine(file, allowance, permitted, &lent(tables));
-        let answer = Answer::of(&loaded);
-        *tables = loaded.tables;
-        answer
+        give(loaded, tables)
+    }
+
+    fn examine_record(
+        &self,
+        file: &[u8],
+        allowance: Allowance,
+        permitted: &[u8],
+        tables: &mut Tables,
+        record: u32,
+    ) -> Answer {
+        let loaded = model::examine_single(file, allowance, permitted, &lent(tables), record);
+        give(loaded, tables)
     }
 
     fn follow(
@@ -247,8 +264,15 @@ impl Subject for Model {
     }
 }
 
+/// Leaves the words of a model's answer in lent tables.
+pub fn give(loaded: Loaded, tables: &mut Tables) -> Answer {
+    let answer = Answer::of(&loaded);
+    *tables = loaded.tables;
+    answer
+}
+
 /// How many words each table has.
-fn lent(tables: &Tables) -> Sizes {
+pub fn lent(tables: &Tables) -> Sizes {
     Sizes(std::array::from_fn(|t| tables[t].len()))
 }
 

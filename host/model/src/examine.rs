@@ -1,4 +1,4 @@
-//! Examination: 15 over the tree, then 16 to 20, 25 and 32 record by record.
+//! Examination: 15 over the tree, then 16 to 20, 25 and 32 record by record; and that of a single record.
 
 use crate::Refusal;
 use crate::allowance::Allowance;
@@ -8,13 +8,33 @@ use crate::permitted::permits_step;
 use crate::registers::last_register;
 use crate::rows::{Loaded, Record, Rows, Sizes};
 
-/// Loads a file under an allowance and examines it for a list of permitted opcodes; a file that passes answers what its load answers.
+/// Loads a file under an allowance and examines it for a list of permitted opcodes.
 pub fn examine(file: &[u8], allowance: Allowance, permitted: &[u8], lent: &Sizes) -> Loaded {
+    load_and_test(file, allowance, lent, |rows| passes(file, permitted, rows))
+}
+
+/// "A call loads the file and examines a single record, without 15."
+pub fn examine_single(
+    file: &[u8],
+    allowance: Allowance,
+    permitted: &[u8],
+    lent: &Sizes,
+    record: u32,
+) -> Loaded {
+    load_and_test(file, allowance, lent, |rows| {
+        passes_by_itself(file, permitted, rows, record)
+    })
+}
+
+/// Loads a file and tests its rows; a file that passes answers what its load answers.
+fn load_and_test(
+    file: &[u8],
+    allowance: Allowance,
+    lent: &Sizes,
+    test: impl FnOnce(&Rows) -> Result<(), Refusal>,
+) -> Loaded {
     let reading = read(file, allowance, lent.rows());
-    let examined = reading
-        .end
-        .and_then(|()| passes(file, permitted, &reading.rows));
-    match examined {
+    match reading.end.and_then(|()| test(&reading.rows)) {
         Ok(()) => reading.rows.loaded(lent),
         Err(number) => Loaded::refused(number, lent),
     }
@@ -31,6 +51,17 @@ pub fn passes(file: &[u8], permitted: &[u8], rows: &Rows) -> Result<(), Refusal>
         examine_record(file, permitted, rows, record)?;
     }
     Ok(())
+}
+
+/// Examines the record of this number in a loaded file; "A missing record is 22".
+pub fn passes_by_itself(
+    file: &[u8],
+    permitted: &[u8],
+    rows: &Rows,
+    record: u32,
+) -> Result<(), Refusal> {
+    let record = rows.records.rows.get(record as usize).ok_or(22u32)?;
+    examine_record(file, permitted, rows, record)
 }
 
 /// "the rlens of all records sum to the count minus 1 and, for every m from 1 to count - 1, the first m sum to at least m"

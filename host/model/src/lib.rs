@@ -1,4 +1,4 @@
-//! Paper 01 and requests a) to e), g), h), j), m) and n) of paper 02 as plain Rust: slow, readable, without any `unsafe`. Opcode names and operand kinds are
+//! Paper 01 and requests a) to e), g) to j), m) and n) of paper 02 as plain Rust: slow, readable, without any `unsafe`. Opcode names and operand kinds are
 //! those of insn.rs.
 //!
 //! Comments in quotation marks are the papers' own words.
@@ -18,7 +18,10 @@ mod registers;
 mod rows;
 
 pub use allowance::Allowance;
-pub use examine::{Step, bound, child, examine, examine_record, is_whole, passes, step_at};
+pub use examine::{
+    Step, bound, child, examine, examine_record, examine_single, is_whole, passes,
+    passes_by_itself, step_at,
+};
 pub use follow::{Choice, Followed, choices, follow};
 pub use insn::{Fetched, Flow, Kind, OPCODES, Opcode, Role, fetch, flow, is_prefix, roles};
 pub use line::{Packed, line_at, packed};

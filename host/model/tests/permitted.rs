@@ -1,6 +1,9 @@
 //! Request n) of paper 02: "32 when a record holds an opcode not permitted".
 
+mod parts;
+
 use model::*;
+use parts::{file, lent, record, without};
 
 const NOP: u8 = 0;
 const MOVE: u8 = 1;
@@ -13,36 +16,6 @@ const CLASS: u8 = 103;
 const EXT1: u8 = 115;
 const STOP: u8 = 118;
 
-/// A record of this code with so many children, these targets of handlers, two registers and one symbol.
-fn record(code: &[u8], children: u16, targets: &[u8]) -> Vec<u8> {
-    let mut body = vec![0, 1, 0, 2];
-    body.extend(children.to_be_bytes());
-    body.extend([0, targets.len() as u8]);
-    body.extend((code.len() as u32).to_be_bytes());
-    body.extend(code);
-    for target in targets {
-        body.extend([0; 12]);
-        body.push(*target);
-    }
-    // No constant, and an empty symbol.
-    body.extend([0, 0, 0, 1, 0, 0, 0]);
-    [&(body.len() as u32 + 4).to_be_bytes()[..], &body].concat()
-}
-
-fn section(mark: &[u8; 4], content: &[u8]) -> Vec<u8> {
-    let size = 8 + content.len() as u32;
-    [&mark[..], &size.to_be_bytes(), content].concat()
-}
-
-fn file(records: &[Vec<u8>]) -> Vec<u8> {
-    let irep = section(b"IREP", &[vec![0; 4], records.concat()].concat());
-    let end = section(b"END\0", &[]);
-    let mut file = [&b"RITE0400"[..], &[0; 12], &irep, &end].concat();
-    let size = file.len() as u32;
-    file[8..12].copy_from_slice(&size.to_be_bytes());
-    file
-}
-
 fn coded(code: &[u8]) -> Vec<u8> {
     file(&[record(code, 0, &[])])
 }
@@ -52,21 +25,8 @@ fn two(first: &[u8], second: &[u8]) -> Vec<u8> {
     file(&[record(first, 1, &[]), record(second, 0, &[])])
 }
 
-fn lent() -> Sizes {
-    Sizes::of_rows([9; 9])
-}
-
 fn examined(file: &[u8], list: &[u8]) -> Refusal {
     examine(file, Allowance::DESKTOP, list, &lent()).refusal
-}
-
-/// Everything but these.
-fn without(bytes: &[u8]) -> Vec<u8> {
-    let mut list = EVERYTHING.to_vec();
-    for byte in bytes {
-        list[usize::from(*byte)] = 0;
-    }
-    list
 }
 
 /// These alone.
