@@ -80,6 +80,17 @@ pub fn examine(
     give(loaded, words)
 }
 
+pub fn examine_record(
+    file: &[u8],
+    allowance: Allowance,
+    permitted: &[u8],
+    words: &mut Words,
+    record: u32,
+) -> BlotheathLoaded {
+    let loaded = model::examine_single(file, of(allowance), permitted, &take(words), record);
+    give(loaded, words)
+}
+
 pub fn follow(
     file: &[u8],
     allowance: Allowance,

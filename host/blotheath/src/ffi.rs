@@ -87,6 +87,33 @@ unsafe extern "C" {
         lines: *mut u32,
         lines_len: usize,
     ) -> BlotheathLoaded;
+    fn blotheath_examine_record(
+        file: *const u8,
+        file_len: usize,
+        max_bytes: u32,
+        max_records: u32,
+        permitted: *const u8,
+        permitted_len: usize,
+        records: *mut u32,
+        records_len: usize,
+        handlers: *mut u32,
+        handlers_len: usize,
+        pool: *mut u32,
+        pool_len: usize,
+        symbols: *mut u32,
+        symbols_len: usize,
+        strings: *mut u32,
+        strings_len: usize,
+        names: *mut u32,
+        names_len: usize,
+        filenames: *mut u32,
+        filenames_len: usize,
+        files: *mut u32,
+        files_len: usize,
+        lines: *mut u32,
+        lines_len: usize,
+        record: u32,
+    ) -> BlotheathLoaded;
     fn blotheath_follow(
         file: *const u8,
         file_len: usize,
@@ -326,6 +353,57 @@ pub fn examine(
             files.len(),
             lines.as_mut_ptr(),
             lines.len(),
+        )
+    }
+}
+
+/// Loads a file under an allowance, over lent tables, and examines one record of it by itself for a list of permitted opcodes.
+pub fn examine_record(
+    file: &[u8],
+    allowance: Allowance,
+    permitted: &[u8],
+    words: &mut Words,
+    record: u32,
+) -> BlotheathLoaded {
+    let [
+        records,
+        handlers,
+        pool,
+        symbols,
+        strings,
+        names,
+        filenames,
+        files,
+        lines,
+    ] = words;
+    // SAFETY: each pointer goes with the length of its own slice, and no two of these slices overlap.
+    unsafe {
+        blotheath_examine_record(
+            file.as_ptr(),
+            file.len(),
+            allowance.bytes,
+            allowance.records,
+            permitted.as_ptr(),
+            permitted.len(),
+            records.as_mut_ptr(),
+            records.len(),
+            handlers.as_mut_ptr(),
+            handlers.len(),
+            pool.as_mut_ptr(),
+            pool.len(),
+            symbols.as_mut_ptr(),
+            symbols.len(),
+            strings.as_mut_ptr(),
+            strings.len(),
+            names.as_mut_ptr(),
+            names.len(),
+            filenames.as_mut_ptr(),
+            filenames.len(),
+            files.as_mut_ptr(),
+            files.len(),
+            lines.as_mut_ptr(),
+            lines.len(),
+            record,
         )
     }
 }

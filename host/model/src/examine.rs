@@ -20,6 +20,26 @@ pub fn examine(file: &[u8], allowance: Allowance, permitted: &[u8], lent: &Sizes
     }
 }
 
+/// Loads a file under an allowance and examines a single record of it, "without 15"; "A missing record is 22".
+pub fn examine_single(
+    file: &[u8],
+    allowance: Allowance,
+    permitted: &[u8],
+    lent: &Sizes,
+    record: u32,
+) -> Loaded {
+    let reading = read(file, allowance, lent.rows());
+    let rows = &reading.rows;
+    let examined = reading
+        .end
+        .and_then(|()| rows.records.rows.get(record as usize).ok_or(22))
+        .and_then(|record| examine_record(file, permitted, rows, record));
+    match examined {
+        Ok(()) => rows.loaded(lent),
+        Err(number) => Loaded::refused(number, lent),
+    }
+}
+
 /// Examines a loaded file; "Passing then means meeting none of 15 to 20, 25 and 32."
 pub fn passes(file: &[u8], permitted: &[u8], rows: &Rows) -> Result<(), Refusal> {
     let records = &rows.records.rows;

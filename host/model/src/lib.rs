@@ -18,7 +18,9 @@ mod registers;
 mod rows;
 
 pub use allowance::Allowance;
-pub use examine::{Step, bound, child, examine, examine_record, is_whole, passes, step_at};
+pub use examine::{
+    Step, bound, child, examine, examine_record, examine_single, is_whole, passes, step_at,
+};
 pub use follow::{Choice, Followed, choices, follow};
 pub use insn::{Fetched, Flow, Kind, OPCODES, Opcode, Role, fetch, flow, is_prefix, roles};
 pub use line::{Packed, line_at, packed};
