@@ -11,15 +11,15 @@
    Threads. Calls share nothing and keep nothing: any number of them may go on at once, as long as no slice that one of them writes is lent to
    another. Slices that are only read may be shared.
 
-   Stack. No theorem bounds it. blotheath_load and blotheath_load_records need at most 448 KiB of stack, blotheath_examine and blotheath_follow
-   at most 512 KiB: a chain of 1,024 records is the deepest, and the host's tests run it in threads of that stack. Every other call takes under
-   1 KiB, as measured. What a compiler writes needs far less: some 10 KiB for a load, 80 KiB for an examination or a run, and half a KiB for each
-   level of nesting.
+   Stack. No theorem bounds it. blotheath_load and blotheath_load_records need at most 448 KiB of stack, blotheath_examine, blotheath_examine_record
+   and blotheath_follow at most 512 KiB: a chain of 1,024 records is the deepest, and the host's tests run it in threads of that stack. Every other
+   call takes under 1 KiB, as measured. What a compiler writes needs far less: some 10 KiB for a load, 80 KiB for an examination or a run, and half a
+   KiB for each level of nesting.
 
-   Allowances. blotheath_load, blotheath_load_records, blotheath_examine and blotheath_follow are told, directly behind the file, how many bytes and
-   how many records it may have: max_bytes and max_records. The desktop's allowance is 65,536 and 1,024, that of the web's preview page 16,384
-   and 64, as the constants below say. A number that is larger than the desktop's counts as the desktop's, each of the two by itself. 0 is an
-   allowance too: under 0 bytes every file that has a byte is refused, under 0 records only a file without records loads.
+   Allowances. blotheath_load, blotheath_load_records, blotheath_examine, blotheath_examine_record and blotheath_follow are told, directly behind the
+   file, how many bytes and how many records it may have: max_bytes and max_records. The desktop's allowance is 65,536 and 1,024, that of the web's
+   preview page 16,384 and 64, as the constants below say. A number that is larger than the desktop's counts as the desktop's, each of the two by
+   itself. 0 is an allowance too: under 0 bytes every file that has a byte is refused, under 0 records only a file without records loads.
    A file of more bytes than its allowance is refused by 29, whatever they are; one of more than 65,536 bytes by 1 under every allowance. Records are
    counted as they are read, those that lie over each other too, and the one that is read decides: under 64 the 65th is refused by 29 as soon as its
    first 16 bytes are there, whatever follows them, also in a file of 1,025 records. Where the lent table has no row for that record either, it is
@@ -27,15 +27,15 @@
    A file that is accepted under one allowance gives the same answer and the same rows, in tables of the same lengths, under every allowance that is
    nowhere smaller. An examination or a run is one of a file that loads under the allowance of its call: where the load is refused by 29, so are they.
 
-   Permitted opcodes. blotheath_examine and blotheath_follow are told, directly behind the allowance, which opcodes a file may hold: permitted has a
-   byte for each of the 119 opcodes (BLOTHEATH_OPCODES), byte n for opcode n, which is 0 for no and anything else for yes. Opcodes count from 0 in the
-   order of mruby's ops.h, as `blotheath opcodes` lists them: CLASS is 103. A byte that is missing is a no: a shorter list permits none of the opcodes
-   behind its end, and NULL with length 0 permits nothing. Bytes behind the 119th are not read. To permit everything, set all 119 to 1: the prefixes
-   115 to 117 and STOP, 118, with which a compiled pattern ends, are opcodes too.
-   Every instruction of every record is held against the list, one that no run reaches no less than others; bytes of operands are no opcodes. An
-   instruction with a prefix needs two yeses, that of its prefix and that of the opcode behind it. A file that holds what is not permitted is
-   refused by 32, and the run of a file that passes meets permitted opcodes only. Permitting more never turns a pass into a refusal; a file that was
-   refused by 32 may then pass, or meet another number, as 17. With everything permitted there is no 32. Loads take no list.
+   Permitted opcodes. blotheath_examine, blotheath_examine_record and blotheath_follow are told, directly behind the allowance, which opcodes a file
+   may hold: permitted has a byte for each of the 119 opcodes (BLOTHEATH_OPCODES), byte n for opcode n, which is 0 for no and anything else for yes.
+   Opcodes count from 0 in the order of mruby's ops.h, as `blotheath opcodes` lists them: CLASS is 103. A byte that is missing is a no: a shorter list
+   permits none of the opcodes behind its end, and NULL with length 0 permits nothing. Bytes behind the 119th are not read. To permit everything, set
+   all 119 to 1: the prefixes 115 to 117 and STOP, 118, with which a compiled pattern ends, are opcodes too.
+   Every instruction of every record that is examined is held against the list, one that no run reaches no less than others; bytes of operands are no
+   opcodes. An instruction with a prefix needs two yeses, that of its prefix and that of the opcode behind it. A file that holds what is not permitted
+   is refused by 32, and the run of a file that passes meets permitted opcodes only. Permitting more never turns a pass into a refusal; a file that
+   was refused by 32 may then pass, or meet another number, as 17. With everything permitted there is no 32. Loads take no list.
 
    Refusals. 0 is none, and no refusal is 0.
     1  the file has more than 65,536 bytes
@@ -62,7 +62,8 @@
    19  a handler's target is where no instruction begins
    20  the positions of a record's line map fall
    21  a choice's kind is above 4, or its body is cut
-   22  a lookup's record or index has no row, its row points outside the file or its table, or a constant's kind or length is unknown
+   22  a lookup's record or index has no row, its row points outside the file or its table, or a constant's kind or length is unknown; in
+       blotheath_examine_record the file has no record of the number that is asked for
    23  fetch: the opcode is above 118
    24  fetch: too few bytes
    25  in a record, a prefix opcode (115 to 117) is the last byte, or another prefix opcode follows it
@@ -71,9 +72,9 @@
    29  the file has more bytes than its allowance, though at most 65,536; or a record that is read is one more than its allowance, though at most
        the 1,024th, and its lent table has a row for it
    32  in a record, an opcode or a prefix that the list of permitted opcodes says no to
-   A load refuses by 1 to 14 and 27 to 29, an examination by 1 to 20, 25, 27 to 29 and 32, follow by 1 to 21, 25, 27 to 29 and 32, lookups by 22,
-   fetch by 23 and 24. 1, 29 for bytes, 2, 27, 28, 3 and 4 are tested in this order; 5 to 14, and 29 for records in 14's place, are met where reading
-   forward meets them; the others stand with their calls. */
+   A load refuses by 1 to 14 and 27 to 29, an examination by 1 to 20, 25, 27 to 29 and 32, that of a single record by 1 to 14, 16 to 20, 22, 25, 27 to
+   29 and 32, follow by 1 to 21, 25, 27 to 29 and 32, lookups by 22, fetch by 23 and 24. 1, 29 for bytes, 2, 27, 28, 3 and 4 are tested in this order;
+   5 to 14, and 29 for records in 14's place, are met where reading forward meets them; the others stand with their calls. */
 #ifndef BLOTHEATH_H
 #define BLOTHEATH_H
 
@@ -243,6 +244,33 @@ BlotheathLoaded blotheath_examine(const uint8_t *file, size_t file_len,
                                   uint32_t *filenames, size_t filenames_len,
                                   uint32_t *files, size_t files_len,
                                   uint32_t *lines, size_t lines_len);
+
+/* Examines one record of a file by itself: loads the file as above, then tests that it has a record of the number rec, counted from 0 (22), and then
+   that record alone, as blotheath_examine tests each: 16 and 25 in one reading of its instructions, 32 at all of them, 17 and 18 at each instruction
+   in turn, 19, 20. Records are counted as the file has them: a row that is lent and not used is none.
+   Neither the tree (15) nor any other record counts. An operand that names a child is held against the record's own number of children, rlen; whether
+   there are so many records does not matter. So a pass says nothing of the rest of the file, nor of a run. The answer and the tables are those of a
+   load of the whole file; after a refusal, by 22 too, every table is zero throughout.
+
+   Two facts are proved, for one allowance and one list of permitted opcodes.
+   A file passes blotheath_examine exactly where its records are one whole tree and each of them passes by itself.
+   Where a file passed blotheath_examine and was changed, and the changed file loads, one record may answer for all: if there are as many records as
+   before, this record has as many children (rlen) as before, and every other record has the same nregs, rlen, numbers of constants and symbols,
+   handlers, line map and instruction bytes, wherever they stand now, then blotheath_examine_record of this record answers exactly what
+   blotheath_examine answers: the same number, or the same pass, with the same tables. */
+BlotheathLoaded blotheath_examine_record(const uint8_t *file, size_t file_len,
+                                         uint32_t max_bytes, uint32_t max_records,
+                                         const uint8_t *permitted, size_t permitted_len,
+                                         uint32_t *records, size_t records_len,
+                                         uint32_t *handlers, size_t handlers_len,
+                                         uint32_t *pool, size_t pool_len,
+                                         uint32_t *symbols, size_t symbols_len,
+                                         uint32_t *strings, size_t strings_len,
+                                         uint32_t *names, size_t names_len,
+                                         uint32_t *filenames, size_t filenames_len,
+                                         uint32_t *files, size_t files_len,
+                                         uint32_t *lines, size_t lines_len,
+                                         uint32_t rec);
 
 /* Where a run stands. refusal: 0, or one of 1 to 21, 25, 27 to 29 and 32. finished: 1 where the run is finished, and then all else is 0. Else the top
    frame's record and offset, its line where found is 1, and the number of frames. The offset is where an instruction begins, at its prefix where it

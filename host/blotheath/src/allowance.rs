@@ -1,7 +1,7 @@
 //! Allowances: how many bytes and records a file may have, and how far a file is beyond that.
 
 use crate::FILE_LIMIT;
-use crate::pattern::{examine_within, load};
+use crate::pattern::{examine_record_within, examine_within, load};
 use crate::permitted::Permitted;
 use crate::refusal::Refusal;
 use crate::tables::RECORD_LIMIT;
@@ -52,6 +52,8 @@ pub enum Limit {
 pub enum Desktop {
     Loads,
     Passes,
+    /// The record that was asked for passes by itself.
+    RecordPasses(u32),
     Refuses(Refusal),
 }
 
@@ -68,12 +70,8 @@ pub struct Excess {
 impl Excess {
     /// That of a load under an allowance, by its refusal; none where that is not 29.
     pub fn of_load(file: &[u8], allowance: Allowance, refusal: Refusal) -> Option<Excess> {
-        (refusal == BEYOND).then(|| {
-            let desktop = match load(file) {
-                Ok(_) => Desktop::Loads,
-                Err(refusal) => Desktop::Refuses(refusal),
-            };
-            Excess::of(file, allowance, desktop)
+        Excess::of(file, allowance, refusal, || {
+            load(file).map(|_| Desktop::Loads)
         })
     }
 
@@ -84,27 +82,45 @@ impl Excess {
         permitted: &Permitted,
         refusal: Refusal,
     ) -> Option<Excess> {
-        (refusal == BEYOND).then(|| {
-            let desktop = match examine_within(file, Allowance::DESKTOP, permitted) {
-                Ok(_) => Desktop::Passes,
-                Err(refusal) => Desktop::Refuses(refusal),
-            };
-            Excess::of(file, allowance, desktop)
+        Excess::of(file, allowance, refusal, || {
+            examine_within(file, Allowance::DESKTOP, permitted).map(|_| Desktop::Passes)
         })
     }
 
-    fn of(file: &[u8], allowance: Allowance, desktop: Desktop) -> Excess {
+    /// That of an examination of one record by itself, by its refusal; none where that is not 29.
+    pub fn of_record(
+        file: &[u8],
+        allowance: Allowance,
+        permitted: &Permitted,
+        record: u32,
+        refusal: Refusal,
+    ) -> Option<Excess> {
+        Excess::of(file, allowance, refusal, || {
+            examine_record_within(file, Allowance::DESKTOP, permitted, record)
+                .map(|_| Desktop::RecordPasses(record))
+        })
+    }
+
+    fn of(
+        file: &[u8],
+        allowance: Allowance,
+        refusal: Refusal,
+        desktop: impl FnOnce() -> Result<Desktop, Refusal>,
+    ) -> Option<Excess> {
+        if refusal != BEYOND {
+            return None;
+        }
         let granted = allowance.granted();
         let (of, allowed, has) = match file.len() > granted.bytes as usize {
             true => (Limit::Bytes, granted.bytes, Some(file.len() as u32)),
             false => (Limit::Records, granted.records, records(file)),
         };
-        Excess {
+        Some(Excess {
             of,
             allowed,
             has,
-            desktop,
-        }
+            desktop: desktop().unwrap_or_else(Desktop::Refuses),
+        })
     }
 
     /// By how much the file is beyond its allowance, where that is known.

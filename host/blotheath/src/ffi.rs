@@ -357,7 +357,7 @@ pub fn examine(
     }
 }
 
-/// Loads a file under an allowance, over lent tables, and examines a single record of it, as [`examine`] does its records.
+/// Loads a file under an allowance, over lent tables, and examines one record of it by itself for a list of permitted opcodes.
 pub fn examine_record(
     file: &[u8],
     allowance: Allowance,

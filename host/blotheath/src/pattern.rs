@@ -189,6 +189,26 @@ pub fn examine_within<'a>(
     })
 }
 
+/// Loads a file under the desktop's allowance and examines one record of it by itself, every opcode being permitted.
+///
+/// Neither the tree of records nor any other record counts: [`examine`] passes a file exactly where the tree is whole and each record passes so. A
+/// record that the file does not have is refused by 22.
+pub fn examine_record(file: &[u8], record: u32) -> Result<Pattern<'_>, Refusal> {
+    examine_record_within(file, Allowance::DESKTOP, &Permitted::everything(), record)
+}
+
+/// Loads a file under an allowance and examines one record of it by itself for permitted opcodes, as [`examine_record`] does.
+pub fn examine_record_within<'a>(
+    file: &'a [u8],
+    allowance: Allowance,
+    permitted: &Permitted,
+    record: u32,
+) -> Result<Pattern<'a>, Refusal> {
+    answered(file, |words| {
+        ffi::examine_record(file, allowance, permitted.as_bytes(), words, record)
+    })
+}
+
 fn answered(
     file: &[u8],
     call: impl Fn(&mut Words) -> BlotheathLoaded,

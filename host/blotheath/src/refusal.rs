@@ -42,7 +42,7 @@ const REFUSALS: &[(u32, By, &str)] = &[
     (19, Examination, "a handler leads to a place where no instruction begins"),
     (20, Examination, "a line map falls back to an earlier position"),
     (21, Choices, "a choice is of an unknown kind, or is cut short"),
-    (22, Lookup, "the row that is asked for does not exist or points outside"),
+    (22, Lookup, "the record or the row that is asked for does not exist, or the row points outside"),
     (23, Fetch, "the opcode is unknown"),
     (24, Fetch, "the instruction is cut short"),
     (25, Examination, "a prefix has no opcode behind it: its record ends, or another prefix follows"),

@@ -712,7 +712,7 @@ fn what_is_no_number_is_wrong_usage() {
         }
     }
     assert_eq!(run(&["opcodes", "--preview"]).status, 2);
-    for command in ["examine", "load", "steps", "follow", "report"] {
+    for command in ["examine", "watch", "load", "steps", "follow", "report"] {
         let help = run(&["help", command]).out;
         for words in [
             "[--preview]",

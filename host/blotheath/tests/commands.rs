@@ -389,6 +389,7 @@ fn help_and_usage() {
         &[],
         &["help", "follow"],
         &["help", "opcodes"],
+        &["help", "watch"],
         &["steps", "--help"],
     ] {
         let ran = run(words);

@@ -273,6 +273,52 @@ static void hold_order_of_lists(void) {
     hold(blotheath_examine(LENT(definition), 0, 0, NONE, NO_TABLES).refusal == 29, "a load's refusal comes before 32");
 }
 
+/* What the examination of a record of the two answers; the tables hold rows exactly where it passes. */
+static uint32_t examined_single(const uint8_t *bytes, size_t length, const uint8_t *permitted, size_t permitted_len, uint32_t rec) {
+    uint32_t records[3 * BLOTHEATH_RECORD_WORDS], symbols[2], again[3 * BLOTHEATH_RECORD_WORDS], same[2];
+    memset(records, 7, sizeof records);
+    memset(symbols, 7, sizeof symbols);
+    BlotheathLoaded examined = blotheath_examine_record(bytes, length, DESKTOP, permitted, permitted_len, LENT(records), NONE, NONE, LENT(symbols),
+                                                        NONE, NONE, NONE, NONE, NONE, rec);
+    BlotheathLoaded loaded = blotheath_load(bytes, length, DESKTOP, LENT(again), NONE, NONE, LENT(same), NONE, NONE, NONE, NONE, NONE);
+    if (examined.refusal) {
+        memset(again, 0, sizeof again);
+        memset(same, 0, sizeof same);
+        hold(examined.records == 0 && examined.symbols == 0 && examined.visits == 0, "a refused record answers no counts");
+    } else {
+        hold(memcmp(&examined, &loaded, sizeof loaded) == 0, "a record that passes answers what a load answers");
+    }
+    hold(memcmp(records, again, sizeof records) == 0 && memcmp(symbols, same, sizeof same) == 0, "rows of a load, or zeros after a refusal");
+    return examined.refusal;
+}
+
+static void hold_single_records(void) {
+    static const uint32_t length = sizeof definition, most = UINT32_MAX;
+    uint8_t changed[sizeof definition], no_tdef[BLOTHEATH_OPCODES];
+    hold(blotheath_examine_record(NONE, DESKTOP, EVERYTHING, NO_TABLES, 0).refusal == 2, "a file without bytes, by a record");
+    hold(blotheath_examine_record(LENT(file), DESKTOP, EVERYTHING, NO_TABLES, most).refusal == 14, "a load's refusal comes before 22");
+    hold(blotheath_examine_record(LENT(definition), length - 1, 2, EVERYTHING, NO_TABLES, most).refusal == 29, "29 too");
+    hold(examined_single(LENT(definition), EVERYTHING, 0) == 0 && examined_single(LENT(definition), EVERYTHING, 1) == 0, "both records pass");
+    hold(examined_single(LENT(definition), EVERYTHING, 2) == 22, "a row that is lent and not used is no record");
+    hold(examined_single(LENT(definition), EVERYTHING, most) == 22, "the largest number of a record");
+    memcpy(no_tdef, everything, sizeof no_tdef);
+    no_tdef[TDEF] = 0;
+    hold(examined_single(LENT(definition), LENT(no_tdef), 0) == 32, "the record holds what is not permitted");
+    hold(examined_single(LENT(definition), LENT(no_tdef), 1) == 0, "another record holds it");
+    hold(examined_single(LENT(definition), NONE, 2) == 22, "22 comes before 32");
+    memcpy(changed, definition, sizeof changed);
+    changed[DEFINITION_CHILDREN + 1] = 9;
+    changed[CHILD] = 8;
+    hold(examined_for(LENT(changed), EVERYTHING) == 15, "the tree is not whole");
+    hold(examined_single(LENT(changed), EVERYTHING, 0) == 0, "a child that is claimed need not be there");
+    changed[CHILD] = 9;
+    hold(examined_single(LENT(changed), EVERYTHING, 0) == 17, "one that is not even claimed");
+    hold(examined_single(LENT(changed), EVERYTHING, 1) == 0, "the other record passes by itself");
+    changed[SECOND_CODE] = STOP + 1;
+    hold(examined_single(LENT(changed), EVERYTHING, 1) == 16, "an unknown opcode");
+    hold(examined_single(LENT(changed), EVERYTHING, 0) == 17, "each record has its own number");
+}
+
 int main(void) {
     uint32_t records[2 * BLOTHEATH_RECORD_WORDS], pool[6], symbols[2], frames[2 * 2];
     BlotheathRecord row[1];
@@ -336,6 +382,7 @@ int main(void) {
     hold_allowances();
     hold_lists();
     hold_order_of_lists();
+    hold_single_records();
     hold(blotheath_fetch(NONE).refusal == 24, "an instruction of no bytes");
     hold(blotheath_fetch(file + code.place, code.length).a == 1, "an instruction");
     hold(blotheath_line_at(NONE, 0).found == 0, "a map without entries");

@@ -117,16 +117,35 @@ fn taking<'h>(header: &'h str, start: &str, word: &str) -> Vec<&'h str> {
     taking.into_iter().map(|(name, _)| name).collect()
 }
 
-/// The four calls that read a whole file take an allowance directly behind it, the two that examine it permitted opcodes behind that, and no others.
+/// The calls that read a whole file take an allowance directly behind it, those that examine it permitted opcodes behind that, and no others.
 #[test]
 fn the_terms_stand_behind_the_file() {
     let header = header();
     let allowance =
         "const uint8_t *file, size_t file_len, uint32_t max_bytes, uint32_t max_records,";
-    let all = ["load", "load_records", "examine", "follow"];
+    let all = [
+        "load",
+        "load_records",
+        "examine",
+        "examine_record",
+        "follow",
+    ];
     assert_eq!(taking(&header, allowance, "max_"), all);
     let permitted = format!("{allowance} const uint8_t *permitted, size_t permitted_len,");
     assert_eq!(taking(&header, &permitted, "permitted"), all[2..]);
+}
+
+/// The examination of a single record takes what that of the whole file takes, and the record last.
+#[test]
+fn the_record_stands_last() {
+    let header = header();
+    let calls = calls(&header);
+    let of = |wanted: &str| {
+        let call = calls.iter().find(|(name, _)| *name == wanted);
+        call.unwrap().1.clone()
+    };
+    let right = format!("{}, uint32_t rec", of("examine"));
+    assert_eq!(of("examine_record"), right);
 }
 
 #[test]

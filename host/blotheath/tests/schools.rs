@@ -530,7 +530,7 @@ fn help_lists_the_groups() {
     for group in Group::all() {
         assert!(words.contains(&group.name), "{}", group.name);
     }
-    for command in ["examine", "steps", "follow", "report"] {
+    for command in ["examine", "watch", "steps", "follow", "report"] {
         let help = run(&["help", command]).out;
         for words in [
             "[--forbid NAMES] [--permit NAMES] [--school FILE]",

@@ -57,6 +57,21 @@ fn examinations_in_their_stack() {
 }
 
 #[test]
+fn single_records_in_their_stack() {
+    for file in chains() {
+        let mut words = lent(&file);
+        for (record, right) in [(0, 0), (RECORD_LIMIT - 1, 0), (RECORD_LIMIT, 22)] {
+            let answer = in_stack(STACK, || {
+                let permitted = EVERYTHING.as_bytes();
+                let (allowance, record) = (Allowance::DESKTOP, record as u32);
+                ffi::examine_record(&file, allowance, permitted, &mut words, record)
+            });
+            assert_eq!(answer.refusal, right);
+        }
+    }
+}
+
+#[test]
 fn runs_in_their_stack() {
     // Every step enters the next record: the run has as many frames as the file has records.
     let choices = vec![2; RECORD_LIMIT - 1];
@@ -82,8 +97,14 @@ fn runs_in_their_stack() {
 fn the_command_has_its_stack_in_any_shell() {
     let folder = common::Folder::new("stack");
     let path = folder.file("chain.mrb", &build::chain(true, true));
-    for command in ["examine", "load", "steps", "report"] {
-        let ran = run_in_stack(256, &[command, &path]);
-        assert_eq!(ran.status, 0, "{command}: {}", ran.err);
+    for command in [
+        &["examine"][..],
+        &["examine", "--record", "1023"],
+        &["load"],
+        &["steps"],
+        &["report"],
+    ] {
+        let ran = run_in_stack(256, &[command, &[&path]].concat());
+        assert_eq!(ran.status, 0, "{command:?}: {}", ran.err);
     }
 }

@@ -185,6 +185,8 @@ fn an_output_that_is_closed_or_full() {
         &["--version"],
         &["examine", &pattern],
         &["examine", "--json", &pattern],
+        &["examine", "--record", "0", &pattern],
+        &["watch", &pattern],
         &["load", &pattern],
         &["load", "--json", &pattern],
         &["steps", &pattern],
@@ -290,6 +292,7 @@ fn what_is_not_seen_is_shown_escaped() {
     for words in [
         &["examine", &path][..],
         &["examine", "--json", &path],
+        &["examine", "--record", "0", &path],
         &["load", &path],
         &["load", "--json", &path],
         &["steps", &path],

@@ -3,6 +3,7 @@
 use super::json::Json;
 use super::style::Style;
 use super::text::{counted, grouped};
+use super::verdict::by_itself;
 use blotheath::{Allowance, Desktop, Excess, Limit};
 use std::io::{self, Write};
 
@@ -58,11 +59,12 @@ pub fn beyond(excess: &Excess) -> String {
         None => format!("it has more {noun}s than the {allowed} allowed"),
     };
     let desktop = match excess.desktop {
-        Desktop::Loads => "loads".to_owned(),
-        Desktop::Passes => "passes".to_owned(),
-        Desktop::Refuses(refusal) => format!("is {refusal}"),
+        Desktop::Loads => "it loads".to_owned(),
+        Desktop::Passes => "it passes".to_owned(),
+        Desktop::RecordPasses(number) => by_itself(number),
+        Desktop::Refuses(refusal) => format!("it is {refusal}"),
     };
-    format!("{far}; under the desktop's allowance it {desktop}")
+    format!("{far}; under the desktop's allowance {desktop}")
 }
 
 /// How far a file is beyond its allowance, as a member of a JSON object.
@@ -82,6 +84,10 @@ fn desktop_members(json: &mut Json, desktop: Desktop) -> io::Result<()> {
     match desktop {
         Desktop::Loads => json.key("loads")?.boolean(true),
         Desktop::Passes => json.key("passes")?.boolean(true),
+        Desktop::RecordPasses(number) => {
+            json.key("record")?.number(number)?;
+            json.key("passes")?.boolean(true)
+        }
         Desktop::Refuses(refusal) => {
             json.key("refusal")?.number(refusal.number())?;
             json.key("sentence")?.string(refusal.sentence())
@@ -130,6 +136,9 @@ mod tests {
         excess.desktop = Desktop::Loads;
         let right =
             "it has 1 record, 1 more than the 0 allowed; under the desktop's allowance it loads";
+        assert_eq!(beyond(&excess), right);
+        excess.desktop = Desktop::RecordPasses(3);
+        let right = "it has 1 record, 1 more than the 0 allowed; under the desktop's allowance record 3 passes by itself";
         assert_eq!(beyond(&excess), right);
         excess.has = None;
         excess.desktop = Desktop::Refuses(Refusal(10));

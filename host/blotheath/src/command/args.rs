@@ -2,12 +2,13 @@
 
 use super::near::meant;
 use super::school::{Rule, School};
+use super::scope::Scope;
 use super::terms::Terms;
 use super::text;
 use blotheath::Allowance;
 use std::ffi::{OsStr, OsString};
 use std::os::unix::ffi::OsStrExt;
-use std::path::PathBuf;
+use std::path::{Path, PathBuf};
 
 /// A command with its options.
 #[derive(Debug, PartialEq, Eq)]
@@ -17,8 +18,14 @@ pub enum Command {
     Version,
     Examine {
         paths: Vec<PathBuf>,
+        scope: Scope,
         terms: Terms,
         json: bool,
+    },
+    Watch {
+        path: PathBuf,
+        scope: Scope,
+        terms: Terms,
     },
     Load {
         path: PathBuf,
@@ -69,6 +76,7 @@ struct Words {
     preview: bool,
     max_bytes: Option<u32>,
     max_records: Option<u32>,
+    record: Option<u32>,
     /// What is permitted and forbidden, in the order of the words.
     rules: Vec<Rule>,
     output: Option<PathBuf>,
@@ -102,8 +110,9 @@ const SCHOOL: &[&str] = &["--permit", "--forbid", "--school"];
 
 /// The options that each command has, group by group.
 #[rustfmt::skip]
-const OPTIONS: [(&str, &[&[&str]]); 6] = [
-    ("examine", &[&["--json"], ALLOWANCE, SCHOOL]),
+const OPTIONS: [(&str, &[&[&str]]); 7] = [
+    ("examine", &[&["--json", "--record"], ALLOWANCE, SCHOOL]),
+    ("watch", &[&["--record"], ALLOWANCE, SCHOOL]),
     ("load", &[&["--json", "--all"], ALLOWANCE]),
     ("steps", &[&["--json", "--all", "--source"], ALLOWANCE, SCHOOL]),
     ("follow", &[&["--json", "--each", "--source"], ALLOWANCE, SCHOOL]),
@@ -112,10 +121,11 @@ const OPTIONS: [(&str, &[&[&str]]); 6] = [
 ];
 
 /// The options that have a value behind them.
-const VALUED: [&str; 8] = [
+const VALUED: [&str; 9] = [
     "-o",
     "--output",
     "--source",
+    "--record",
     "--max-bytes",
     "--max-records",
     "--permit",
@@ -227,6 +237,7 @@ fn option<'a>(
     let value = value.filter(|value| !value.is_empty());
     let value = value.ok_or(format!("{name} has no value"))?;
     match name {
+        "--record" => words.record = Some(number(name, value)?),
         "--max-bytes" => words.max_bytes = Some(number(name, value)?),
         "--max-records" => words.max_records = Some(number(name, value)?),
         "--permit" | "--forbid" | "--school" => words.rules.push(rule(name, value)),
@@ -273,15 +284,21 @@ fn build(name: &str, words: Words) -> Result<Command, String> {
         return Err(format!("{name} has no file to work on"));
     };
     let (json, all, each) = (words.json, words.all, words.each);
+    let scope = Scope::of(words.record);
     let command = match name {
         "examine" => {
             let paths = std::iter::once(path).chain(plain.by_ref().map(PathBuf::from));
             Command::Examine {
                 paths: paths.collect(),
+                scope,
                 terms,
                 json,
             }
         }
+        "watch" if path == Path::new("-") => {
+            return Err("watch takes a file that can be read again, not standard input".to_owned());
+        }
+        "watch" => Command::Watch { path, scope, terms },
         "load" => Command::Load {
             path,
             terms,
@@ -345,6 +362,7 @@ mod tests {
         assert_eq!(parse("load --json a"), Ok(load));
         let examine = Command::Examine {
             paths: vec!["-".into(), "--json".into()],
+            scope: Scope::File,
             terms: Terms::default(),
             json: false,
         };
@@ -424,6 +442,7 @@ mod tests {
     fn forbidden(command: &str, options: &str) -> Result<usize, String> {
         let terms = match parse(&format!("{command} a {options}"))? {
             Command::Examine { terms, .. }
+            | Command::Watch { terms, .. }
             | Command::Load { terms, .. }
             | Command::Steps { terms, .. }
             | Command::Report { terms, .. } => terms,
@@ -435,7 +454,7 @@ mod tests {
 
     #[test]
     fn permitted_opcodes() {
-        for command in ["examine", "steps", "follow", "report"] {
+        for command in ["examine", "watch", "steps", "follow", "report"] {
             for (options, right) in [
                 ("", 0),
                 ("--forbid CLASS", 1),
@@ -470,6 +489,43 @@ mod tests {
         }
     }
 
+    /// What of a file options of a command ask for.
+    fn scope(command: &str, options: &str) -> Result<Scope, String> {
+        match parse(&format!("{command} a {options}"))? {
+            Command::Examine { scope, .. } | Command::Watch { scope, .. } => Ok(scope),
+            other => panic!("{other:?}"),
+        }
+    }
+
+    #[test]
+    fn single_records() {
+        for command in ["examine", "watch"] {
+            for (options, right) in [
+                ("", Scope::File),
+                ("--record 0", Scope::Record(0)),
+                ("--record=3", Scope::Record(3)),
+                ("--record 3 --record 007", Scope::Record(7)),
+                ("--record 1024 --preview", Scope::Record(1_024)),
+                ("--record 99999999999", Scope::Record(u32::MAX)),
+            ] {
+                assert_eq!(scope(command, options), Ok(right), "{command} {options}");
+            }
+            for value in ["x", "-1", "+1", "1.5", "0x1", "1,024"] {
+                let told =
+                    format!("--record takes a whole number, in digits alone; \"{value}\" is none");
+                assert_eq!(scope(command, &format!("--record {value}")), Err(told));
+            }
+            for options in ["--record", "--record="] {
+                let told = "--record has no value".to_owned();
+                assert_eq!(scope(command, options), Err(told));
+            }
+        }
+        for command in ["load", "steps", "follow", "report", "opcodes"] {
+            let told = format!("{command} has no option \"--record\"");
+            assert_eq!(scope(command, "--record 0"), Err(told));
+        }
+    }
+
     #[test]
     fn near_words() {
         for (line, hint) in [
@@ -478,6 +534,8 @@ mod tests {
             ("laod a", "; did you mean load?"),
             ("help stesp", "; did you mean steps?"),
             ("opcode", "; did you mean opcodes?"),
+            ("wathc a", "; did you mean watch?"),
+            ("watch a --recrod=3", "; did you mean --record?"),
             ("--versoin", "; did you mean --version?"),
             ("load --jsn a", "; did you mean --json?"),
             ("report a --ouput=b", "; did you mean --output?"),
@@ -512,6 +570,10 @@ mod tests {
             "load --json=yes a",
             "load --source a b",
             "report a b",
+            "watch",
+            "watch a b",
+            "watch -",
+            "watch a --json",
             "opcodes a",
             "opcodes -",
             "opcodes --all",

@@ -1,7 +1,8 @@
-//! `blotheath examine`: a verdict for each file.
+//! `blotheath examine`: a verdict for each file, or for one record of each.
 
 use super::input::{self, Found, Input};
 use super::json::Json;
+use super::scope::Scope;
 use super::style::Style;
 use super::terms::{self, Terms};
 use super::text::{self, counted};
@@ -34,12 +35,13 @@ pub fn run(
     out: &mut dyn Write,
     style: Style,
     paths: &[PathBuf],
+    scope: Scope,
     terms: &Terms,
     json: bool,
 ) -> io::Result<Status> {
     let found = input::find(paths);
     if json {
-        return write_json(out, &found, terms);
+        return write_json(out, &found, scope, terms);
     }
     terms::write(out, style, terms)?;
     let mut tally = Tally::default();
@@ -48,7 +50,7 @@ pub fn run(
         progress.draw(out)?;
         let name = text::path(&file.path);
         let input = read(file, terms);
-        let verdict = input.as_ref().map(|input| (input, judge(input)));
+        let verdict = input.as_ref().map(|input| (input, judge(input, scope)));
         progress.erase();
         match verdict {
             Ok((input, verdict)) => {
@@ -66,7 +68,7 @@ pub fn run(
         progress.done += 1;
     }
     if found.len() > 1 {
-        writeln!(out, "{}", style.bold(&summary(&tally)))?;
+        writeln!(out, "{}", style.bold(&summary(scope, &tally)))?;
     }
     Ok(tally.status())
 }
@@ -125,11 +127,14 @@ fn write_around(out: &mut dyn Write, style: Style, bytes: &[u8], place: usize) -
     Ok(())
 }
 
-fn summary(tally: &Tally) -> String {
-    let files = tally.passed + tally.refused + tally.unread;
+fn summary(scope: Scope, tally: &Tally) -> String {
+    let files = counted(tally.passed + tally.refused + tally.unread, "file");
+    let examined = match scope {
+        Scope::File => files,
+        Scope::Record(number) => format!("{files}, record {number} of each by itself"),
+    };
     let mut summary = format!(
-        "{}: {} passed, {} refused",
-        counted(files, "file"),
+        "{examined}: {} passed, {} refused",
         text::grouped(tally.passed),
         text::grouped(tally.refused)
     );
@@ -139,7 +144,12 @@ fn summary(tally: &Tally) -> String {
     summary
 }
 
-fn write_json(out: &mut dyn Write, found: &[Found], terms: &Terms) -> io::Result<Status> {
+fn write_json(
+    out: &mut dyn Write,
+    found: &[Found],
+    scope: Scope,
+    terms: &Terms,
+) -> io::Result<Status> {
     let mut tally = Tally::default();
     let mut json = Json::new(out);
     json.object(|json| {
@@ -147,7 +157,7 @@ fn write_json(out: &mut dyn Write, found: &[Found], terms: &Terms) -> io::Result
         json.key("files")?.array(|json| {
             for file in found {
                 json.line()?;
-                json.object(|json| write_file(json, file, terms, &mut tally))?;
+                json.object(|json| write_file(json, file, scope, terms, &mut tally))?;
             }
             Ok(())
         })?;
@@ -165,7 +175,13 @@ fn write_json(out: &mut dyn Write, found: &[Found], terms: &Terms) -> io::Result
     Ok(tally.status())
 }
 
-fn write_file(json: &mut Json, file: &Found, terms: &Terms, tally: &mut Tally) -> io::Result<()> {
+fn write_file(
+    json: &mut Json,
+    file: &Found,
+    scope: Scope,
+    terms: &Terms,
+    tally: &mut Tally,
+) -> io::Result<()> {
     json.key("file")?.string(&file.path.to_string_lossy())?;
     let input = match read(file, terms) {
         Ok(input) => input,
@@ -174,12 +190,15 @@ fn write_file(json: &mut Json, file: &Found, terms: &Terms, tally: &mut Tally) -
             return json.key("unread")?.string(&fault);
         }
     };
-    let verdict = judge(&input);
+    let verdict = judge(&input, scope);
     match verdict.passes() {
         true => tally.passed += 1,
         false => tally.refused += 1,
     }
     terms::members(json, terms)?;
+    if let Some(number) = scope.record() {
+        json.key("record")?.number(number)?;
+    }
     verdict.members(json)
 }
 

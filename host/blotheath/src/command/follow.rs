@@ -7,6 +7,7 @@ use super::input::{self, Input};
 use super::json::Json;
 use super::meaning::{Meaning, Reader, registers_member, touched};
 use super::nesting;
+use super::scope::Scope;
 use super::source::Source;
 use super::style::Style;
 use super::terms;
@@ -70,7 +71,7 @@ fn refused(
 ) -> io::Result<Status> {
     let sentence = match refusal == BAD_CHOICE {
         true => refusal.to_string(),
-        false => format!("{name}: {}", judge(file).sentence()),
+        false => format!("{name}: {}", judge(file, Scope::File).sentence()),
     };
     writeln!(out, "{}", style.bad(&sentence))?;
     Ok(Status::Refused)
@@ -434,7 +435,7 @@ fn write_refusal(
             json.key("choices")?.number(choices.number() as i64)?;
             match refusal == BAD_CHOICE {
                 true => refusal_members(json, refusal, None, None),
-                false => judge(file).refusal_members(json),
+                false => judge(file, Scope::File).refusal_members(json),
             }
         })
     })?;

@@ -8,7 +8,7 @@ use std::io::{self, Write};
 const GENERAL: &str = include_str!("help.txt");
 
 const EXAMINE: &str = "\
-blotheath examine FILE.. [--json] [--preview] [--max-bytes N] [--max-records N]
+blotheath examine FILE.. [--record N] [--json] [--preview] [--max-bytes N] [--max-records N]
                   [--forbid NAMES] [--permit NAMES] [--school FILE]
 
 A line for each file: it passes, with its numbers of records, constants, names and lines; or it is refused, with the
@@ -17,13 +17,44 @@ as a pattern does, it tells what the first bytes look like, such as a picture or
 and in JSON it is \"looks_like\". Folders are walked for files that end in .mrb, in letters of any case. Several files end
 with a summary.
 
+--record N examines record N alone, counted from 0 as `blotheath steps` numbers them: the file is loaded, and that record is
+tested without the others and without the tree that they make. That it passes by itself says nothing of the rest of the file.
+The whole file passes exactly where the records are one whole tree and each of them passes by itself. A refusal has the place
+in that record, also where the whole file would be refused for another. A record that the file does not have is refused by 22,
+with how many records there are. In JSON \"record\" is N, and \"passes\" is said of that record alone.
+
 Examples
     blotheath examine oval.mrb
+    blotheath examine oval.mrb --record 3
     blotheath examine patterns/ more.mrb
     blotheath examine patterns/ --preview
     blotheath examine patterns/ --forbid class-definitions,globals
     blotheath examine patterns/ --school lower-school.txt
     cat oval.mrb | blotheath examine -
+";
+
+const WATCH: &str = "\
+blotheath watch FILE [--record N] [--preview] [--max-bytes N] [--max-records N]
+                [--forbid NAMES] [--permit NAMES] [--school FILE]
+
+A line each time that the file changes, with the time in UTC and the verdict, as `examine` tells it: for whoever edits a
+pattern and compiles it again and again. Ctrl-C ends it. A change is examined once two looks in turn, a fifth of a second
+apart, find the file the same, so one that is being written is waited for. A file that vanishes or cannot be read is told
+once, and examined when it is there again. A school's file is read once, at the start.
+
+Where the file passed before and one record alone has changed, that record alone is examined, and the line says so. Such an
+examination answers exactly what that of the whole file answers: there are as many records as before, the changed one has as
+many children as before, and every other record has the same counts, handlers, lines and instructions. The loaded rows of the
+two files say whether that is so. Constants' values, texts and names may have changed anywhere: no examination looks at them.
+
+--record N examines record N alone, whatever else has changed. Until the whole file has passed once it is examined too. Then,
+where nothing but that record has changed since the whole file passed, the line says that the whole file passes; else nothing
+is said of the rest of the file.
+
+Examples
+    blotheath watch oval.mrb
+    blotheath watch oval.mrb --record 3
+    blotheath watch oval.mrb --school lower-school.txt
 ";
 
 const LOAD: &str = "\
@@ -147,11 +178,11 @@ named too, as values and returns, and so have the prefixes, without which a larg
 and everything has them. The name of an opcode is that one alone, though Ruby's word may compile to more: def is in the
 groups methods and classes, class in class-definitions and classes.
 
-Every step that a file holds counts, also where no run reaches it. A step behind a prefix needs both to be permitted. A file
-that holds anything else is refused by 32. That tells the first such step of the first record that has one, how to permit it,
-and what else the file holds that is not permitted. What a called method does is no step of the file: Class.new makes a class
-by a call alone. What is permitted is told first, where it is not everything or where a file says so. In JSON \"permitted\" is
-always there, and \"not_permitted\" where 32 is met.
+Every step that a file holds counts, also where no run reaches it; with --record N every step of that record. A step behind a
+prefix needs both to be permitted. A file that holds anything else is refused by 32. That tells the first such step of the
+first record that has one, how to permit it, and what else the file or that record holds that is not permitted. What a called
+method does is no step of the file: Class.new makes a class by a call alone. What is permitted is told first, where it is not
+everything or where a file says so. In JSON \"permitted\" is always there, and \"not_permitted\" where 32 is met.
 
 Groups
 ";
@@ -190,6 +221,7 @@ enum End {
 pub fn write(out: &mut dyn Write, topic: Option<&str>) -> io::Result<Status> {
     let (text, end) = match topic {
         Some("examine") => (EXAMINE, End::Terms),
+        Some("watch") => (WATCH, End::Terms),
         Some("load") => (LOAD, End::Allowance),
         Some("steps") => (STEPS, End::Terms),
         Some("follow") => (FOLLOW, End::Terms),

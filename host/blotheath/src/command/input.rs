@@ -1,9 +1,10 @@
 //! Reading of files and walking of folders.
 
+use super::scope::Scope;
 use super::terms::Terms;
 use blotheath::{
-    Excess, FILE_LIMIT, Pattern, Permitted, Place, Refusal, Standing, examine_within,
-    follow_within, load_within, locate_within,
+    Excess, FILE_LIMIT, Pattern, Permitted, Place, Refusal, Standing, examine_record_within,
+    examine_within, follow_within, load_within, locate_record_within, locate_within,
 };
 use std::fs::{self, File, Metadata};
 use std::io::{self, Read};
@@ -22,27 +23,44 @@ impl Input {
         load_within(&self.bytes, self.terms.allowance)
     }
 
-    pub fn examine(&self) -> Result<Pattern<'_>, Refusal> {
-        examine_within(&self.bytes, self.terms.allowance, self.permitted())
+    pub fn examine(&self, scope: Scope) -> Result<Pattern<'_>, Refusal> {
+        let (bytes, allowance) = (&self.bytes, self.terms.allowance);
+        match scope {
+            Scope::File => examine_within(bytes, allowance, self.permitted()),
+            Scope::Record(number) => {
+                examine_record_within(bytes, allowance, self.permitted(), number)
+            }
+        }
     }
 
     pub fn follow(&self, choices: &[u8]) -> Result<Standing, Refusal> {
         follow_within(&self.bytes, self.terms.allowance, self.permitted(), choices)
     }
 
-    pub fn locate(&self, pattern: Option<&Pattern>, refusal: Refusal) -> Option<Place> {
-        locate_within(
-            &self.bytes,
-            self.terms.allowance,
-            self.permitted(),
-            pattern,
-            refusal,
-        )
+    pub fn locate(
+        &self,
+        scope: Scope,
+        pattern: Option<&Pattern>,
+        refusal: Refusal,
+    ) -> Option<Place> {
+        let (bytes, allowance, permitted) = (&self.bytes, self.terms.allowance, self.permitted());
+        match scope {
+            Scope::File => locate_within(bytes, allowance, permitted, pattern, refusal),
+            Scope::Record(number) => {
+                locate_record_within(bytes, allowance, permitted, pattern, number, refusal)
+            }
+        }
     }
 
     /// How far the file is beyond its allowance, by the refusal of an examination or a run.
-    pub fn excess(&self, refusal: Refusal) -> Option<Excess> {
-        Excess::of_examination(&self.bytes, self.terms.allowance, self.permitted(), refusal)
+    pub fn excess(&self, scope: Scope, refusal: Refusal) -> Option<Excess> {
+        let (bytes, allowance, permitted) = (&self.bytes, self.terms.allowance, self.permitted());
+        match scope {
+            Scope::File => Excess::of_examination(bytes, allowance, permitted, refusal),
+            Scope::Record(number) => {
+                Excess::of_record(bytes, allowance, permitted, number, refusal)
+            }
+        }
     }
 
     fn permitted(&self) -> &Permitted {
@@ -50,7 +68,7 @@ impl Input {
     }
 }
 
-/// A file on terms: its bytes up to one past the longest file's, whatever the allowance is; `-` is standard input.
+/// A file on terms: its bytes as [`read_bytes`] answers them, whatever the allowance is.
 pub fn read(path: &Path, terms: &Terms) -> io::Result<Input> {
     Ok(Input {
         bytes: read_bytes(path)?,
@@ -58,15 +76,26 @@ pub fn read(path: &Path, terms: &Terms) -> io::Result<Input> {
     })
 }
 
-fn read_bytes(path: &Path) -> io::Result<Vec<u8>> {
+/// The bytes of a file up to one past the longest file's; `-` is standard input.
+pub fn read_bytes(path: &Path) -> io::Result<Vec<u8>> {
     if path == Path::new("-") {
         return read_some(io::stdin().lock());
     }
     let file = File::open(path)?;
-    if file.metadata()?.is_dir() {
-        return Err(io::Error::other("this is a folder"));
-    }
+    no_folder(file.metadata()?)?;
     read_some(file)
+}
+
+fn no_folder(metadata: Metadata) -> io::Result<Metadata> {
+    match metadata.is_dir() {
+        true => Err(io::Error::other("this is a folder")),
+        false => Ok(metadata),
+    }
+}
+
+/// What a path names that is no folder.
+pub fn file_metadata(path: &Path) -> io::Result<Metadata> {
+    no_folder(fs::metadata(path)?)
 }
 
 /// The device and the number of a file.

@@ -4,6 +4,7 @@ use super::allowance;
 use super::input::Input;
 use super::json::Json;
 use super::nesting;
+use super::scope::Scope;
 use super::style::Style;
 use super::terms::Terms;
 use super::text::{self, counted, grouped};
@@ -46,7 +47,7 @@ pub fn run(
                 write_tables(out, style, pattern, all)?;
             }
             Err(refusal) => {
-                let place = file.locate(None, *refusal);
+                let place = file.locate(Scope::File, None, *refusal);
                 let excess = Excess::of_load(&file.bytes, terms.allowance, *refusal);
                 let beyond = excess.as_ref().map(allowance::beyond);
                 let sentence = verdict::refused(*refusal, place.as_ref(), beyond.as_deref());
@@ -445,7 +446,10 @@ fn write_json(
         match loaded {
             Ok(pattern) => write_rows(json, pattern, all),
             Err(refusal) => {
-                let (place, like) = (file.locate(None, *refusal), looks_like(&file.bytes));
+                let (place, like) = (
+                    file.locate(Scope::File, None, *refusal),
+                    looks_like(&file.bytes),
+                );
                 let excess = Excess::of_load(&file.bytes, file.terms.allowance, *refusal);
                 verdict::refusal_members(json, *refusal, like, excess.as_ref())?;
                 verdict::place_member(json, place.as_ref())

@@ -5,6 +5,7 @@ mod args;
 mod arrows;
 mod beside;
 mod choices;
+mod date;
 mod examine;
 mod follow;
 mod help;
@@ -20,6 +21,7 @@ mod nesting;
 mod opcodes;
 mod report;
 mod school;
+mod scope;
 mod sha256;
 mod source;
 mod steps;
@@ -27,6 +29,7 @@ mod style;
 mod terms;
 mod text;
 mod verdict;
+mod watch;
 
 use args::Command;
 use std::ffi::OsString;
@@ -60,9 +63,13 @@ pub fn run(words: &[OsString]) -> io::Result<Status> {
     let status = match command {
         Command::Help(topic) => help::write(&mut out, topic.as_deref()),
         Command::Version => identity::write_version(&mut out),
-        Command::Examine { paths, terms, json } => {
-            examine::run(&mut out, style, &paths, &terms, json)
-        }
+        Command::Examine {
+            paths,
+            scope,
+            terms,
+            json,
+        } => examine::run(&mut out, style, &paths, scope, &terms, json),
+        Command::Watch { path, scope, terms } => watch::run(&mut out, style, &path, scope, &terms),
         Command::Load {
             path,
             terms,

@@ -2,6 +2,7 @@
 
 use super::json::Json;
 use super::near::meant;
+use super::scope::Scope;
 use super::style::Style;
 use super::text;
 use blotheath::{Group, Opcode, Pattern, Permitted, Step, UnknownName, opcode_name};
@@ -85,21 +86,22 @@ impl School {
         }
     }
 
-    /// What of a step of a pattern is not permitted.
-    pub fn forbidden(&self, pattern: &Pattern, step: &Step) -> Forbidden {
+    /// What of a step of a pattern is not permitted, and what else of what is examined.
+    pub fn forbidden(&self, scope: Scope, pattern: &Pattern, step: &Step) -> Forbidden {
         let opcodes: Vec<u8> = self.permitted.forbidden_of(step).collect();
-        let mut others = self.held(pattern);
+        let mut others = self.held(scope, pattern);
         others.retain(|opcode| !opcodes.contains(opcode));
         Forbidden {
             how: self.how(&opcodes),
             opcodes,
             others,
+            scope,
         }
     }
 
-    /// What a pattern holds that is not permitted.
-    fn held(&self, pattern: &Pattern) -> Vec<u8> {
-        let records = 0..pattern.counts().records;
+    /// What a pattern, or one record of it, holds that is not permitted.
+    fn held(&self, scope: Scope, pattern: &Pattern) -> Vec<u8> {
+        let records = scope.records(pattern);
         let steps = records.filter_map(|number| pattern.steps(number).ok());
         let mut held = BTreeSet::new();
         for step in steps.flatten().flatten() {
@@ -126,11 +128,12 @@ impl School {
     }
 }
 
-/// What of a step is not permitted, what else of its pattern is not, and how it would be.
+/// What of a step is not permitted, what else of its pattern or record is not, and how it would be.
 pub struct Forbidden {
     opcodes: Vec<u8>,
     others: Vec<u8>,
     how: String,
+    scope: Scope,
 }
 
 impl Forbidden {
@@ -142,10 +145,11 @@ impl Forbidden {
         }
     }
 
-    /// What else the pattern holds that is not permitted, with at most so many names.
+    /// What else the pattern or the record holds that is not permitted, with at most so many names.
     pub fn also(&self, most: usize) -> Option<String> {
         let others = listed(&self.others, most);
-        let told = || format!("the file also holds {others}, not permitted either");
+        let holder = self.scope.noun();
+        let told = || format!("the {holder} also holds {others}, not permitted either");
         (!others.is_empty()).then(told)
     }
 }

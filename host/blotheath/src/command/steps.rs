@@ -7,6 +7,7 @@ use super::labels::labels;
 use super::load::SHARED_TEXT;
 use super::meaning::{Meaning, Reader, registers_member, touched};
 use super::nesting;
+use super::scope::Scope;
 use super::source::Source;
 use super::style::Style;
 use super::terms::{self, Terms};
@@ -35,7 +36,7 @@ pub fn run(
         Ok(source) => source,
         Err((name, fault)) => return Ok(unusable(&name, &fault)),
     };
-    let verdict = judge(&file);
+    let verdict = judge(&file, Scope::File);
     if json {
         write_json(out, path, terms, &verdict, source.as_ref(), all)?;
     } else {

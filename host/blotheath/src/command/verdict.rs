@@ -4,13 +4,14 @@ use super::allowance::{self, excess_member};
 use super::input::Input;
 use super::json::Json;
 use super::school::{Forbidden, School, forbidden_member};
+use super::scope::Scope;
 use super::text::{counted, grouped, visible};
 use blotheath::{Counts, Excess, Frame, NameWalk, Pattern, Place, Refusal, looks_like};
 use std::io;
 
-/// What examination says of a file.
+/// What examination says of a file, or of one record of it by itself.
 pub enum Verdict<'a> {
-    Passes(Pattern<'a>),
+    Passes(Pattern<'a>, Scope),
     Refused {
         refusal: Refusal,
         place: Option<Place>,
@@ -25,26 +26,27 @@ pub enum Verdict<'a> {
     },
 }
 
-/// Examines a file and searches where a refusal lies.
-pub fn judge(file: &Input) -> Verdict<'_> {
-    let refusal = match file.examine() {
-        Ok(pattern) => return Verdict::Passes(pattern),
+/// Examines a file, or one record of it by itself, and searches where a refusal lies.
+pub fn judge(file: &Input, scope: Scope) -> Verdict<'_> {
+    let refusal = match file.examine(scope) {
+        Ok(pattern) => return Verdict::Passes(pattern, scope),
         Err(refusal) => refusal,
     };
-    let pattern = match refusal.is_of_examination() {
-        true => file.load().ok(),
-        false => None,
+    let pattern = match refusal.is_of_loading() {
+        true => None,
+        false => file.load().ok(),
     };
-    let place = file.locate(pattern.as_ref(), refusal);
+    let place = file.locate(scope, pattern.as_ref(), refusal);
+    let school = &file.terms.school;
     let forbidden = match refusal == NOT_PERMITTED {
-        true => forbidden(&file.terms.school, pattern.as_ref(), place.as_ref()),
+        true => forbidden(school, scope, pattern.as_ref(), place.as_ref()),
         false => None,
     };
     Verdict::Refused {
         refusal,
         place,
         looks_like: looks_like(&file.bytes),
-        excess: file.excess(refusal),
+        excess: file.excess(scope, refusal),
         forbidden,
         pattern,
     }
@@ -56,24 +58,25 @@ const NOT_PERMITTED: Refusal = Refusal(32);
 /// What is not permitted at a place of a pattern.
 fn forbidden(
     school: &School,
+    scope: Scope,
     pattern: Option<&Pattern>,
     place: Option<&Place>,
 ) -> Option<Forbidden> {
     let (pattern, place) = (pattern?, place?);
     let (record, offset) = (place.record?, place.offset?);
     let step = pattern.step_at(Frame { record, offset })?;
-    Some(school.forbidden(pattern, &step))
+    Some(school.forbidden(scope, pattern, &step))
 }
 
 impl<'a> Verdict<'a> {
     pub fn passes(&self) -> bool {
-        matches!(self, Verdict::Passes(_))
+        matches!(self, Verdict::Passes(..))
     }
 
     /// The pattern, where the file loads.
     pub fn pattern(&self) -> Option<&Pattern<'a>> {
         match self {
-            Verdict::Passes(pattern) => Some(pattern),
+            Verdict::Passes(pattern, _) => Some(pattern),
             Verdict::Refused { pattern, .. } => pattern.as_ref(),
         }
     }
@@ -82,14 +85,21 @@ impl<'a> Verdict<'a> {
     pub fn byte(&self) -> Option<usize> {
         match self {
             Verdict::Refused { place, .. } => Some(place.as_ref()?.byte? as usize),
-            Verdict::Passes(_) => None,
+            Verdict::Passes(..) => None,
         }
     }
 
     /// The verdict in one line.
     pub fn sentence(&self) -> String {
         match self {
-            Verdict::Passes(pattern) => format!("passes: {}", counts(pattern.counts())),
+            Verdict::Passes(pattern, Scope::File) => {
+                format!("passes: {}", counts(pattern.counts()))
+            }
+            Verdict::Passes(pattern, Scope::Record(number)) => format!(
+                "{}: {}; this says nothing of the rest of the file",
+                by_itself(*number),
+                record_counts(pattern, *number)
+            ),
             Verdict::Refused {
                 refusal,
                 place,
@@ -108,7 +118,7 @@ impl<'a> Verdict<'a> {
     pub fn members(&self, json: &mut Json) -> io::Result<()> {
         json.key("passes")?.boolean(self.passes())?;
         match self {
-            Verdict::Passes(pattern) => count_members(json, pattern.counts()),
+            Verdict::Passes(pattern, _) => count_members(json, pattern.counts()),
             Verdict::Refused { .. } => self.refusal_members(json),
         }
     }
@@ -174,13 +184,39 @@ pub fn place_member(json: &mut Json, place: Option<&Place>) -> io::Result<()> {
 
 /// The counts that a reader asks for first.
 fn counts(counts: Counts) -> String {
-    [
-        counted(counts.records.into(), "record"),
-        counted(counts.constants.into(), "constant"),
-        counted(counts.names.into(), "name"),
-        counted(counts.lines.into(), "line"),
-    ]
-    .join(", ")
+    listed([
+        (counts.records, "record"),
+        (counts.constants, "constant"),
+        (counts.names, "name"),
+        (counts.lines, "line"),
+    ])
+}
+
+/// The words for a record that passes.
+pub fn by_itself(number: u32) -> String {
+    format!("record {number} passes by itself")
+}
+
+/// What a record has of what a reader asks for first.
+fn record_counts(pattern: &Pattern, number: u32) -> String {
+    let steps = pattern.steps(number).map_or(0, Iterator::count);
+    let spans = pattern
+        .record(number)
+        .map(|record| [record.constants, record.names, record.lines]);
+    let [constants, names, lines] = spans.unwrap_or_default().map(|span| span.number);
+    listed([
+        (steps as u32, "step"),
+        (constants, "constant"),
+        (names, "name"),
+        (lines, "line"),
+    ])
+}
+
+/// Numbers with their nouns.
+fn listed(numbers: [(u32, &str); 4]) -> String {
+    numbers
+        .map(|(number, noun)| counted(number.into(), noun))
+        .join(", ")
 }
 
 /// A place in words.

@@ -1,6 +1,6 @@
-//! Where a refusal by 15 to 20, 25 or 32 lies: a search over the loaded rows, in examination's order.
+//! Where a refusal by 15 to 20, 25 or 32 lies, or 22 of a single record: a search over the loaded rows, in examination's order.
 
-use super::Place;
+use super::{Met, Place};
 use crate::opcode::{Flow, Role, flow, name};
 use crate::pattern::{Pattern, Record};
 use crate::permitted::Permitted;
@@ -14,35 +14,65 @@ const BEFORE_TARGET: u32 = 9;
 const ORDINALS: [&str; 3] = ["first", "second", "third"];
 
 /// The first refusal that examination for permitted opcodes meets, and where.
-pub fn search(pattern: &Pattern, permitted: &Permitted) -> Option<(u32, Place)> {
+pub fn search(pattern: &Pattern, permitted: &Permitted) -> Option<Met> {
     if let Some(what) = broken_tree(pattern) {
-        let place = Place {
-            section: (pattern.counts().records > 0).then_some("IREP"),
-            byte: None,
-            record: None,
-            offset: None,
-            line: None,
-            what,
-        };
-        return Some((15, place));
+        let section = (pattern.counts().records > 0).then_some("IREP");
+        return Some((15, of_no_record(section, what)));
     }
     let mut begins = Begins::default();
-    for (number, record) in pattern.records().enumerate() {
-        let number = number as u32;
-        if let Some(found) = search_record(pattern, permitted, number, &record, &mut begins) {
-            let offset = found.offset;
-            let place = Place {
-                section: Some(found.section),
-                byte: found.byte,
-                record: Some(number),
-                offset,
-                line: offset.and_then(|offset| pattern.line(number, offset).ok()?),
-                what: found.what,
-            };
-            return Some((found.refusal, place));
-        }
+    (0..)
+        .zip(pattern.records())
+        .find_map(|(number, record)| search_in(pattern, permitted, number, &record, &mut begins))
+}
+
+/// The refusal that the examination of one record by itself meets, and where; 22 where there is no such record.
+pub fn search_single(pattern: &Pattern, permitted: &Permitted, number: u32) -> Option<Met> {
+    match pattern.record(number) {
+        Some(record) => search_in(pattern, permitted, number, &record, &mut Begins::default()),
+        None => Some((22, of_no_record(None, numbered(pattern.counts().records)))),
     }
-    None
+}
+
+/// A place in no record and at no byte.
+fn of_no_record(section: Option<&'static str>, what: String) -> Place {
+    Place {
+        section,
+        byte: None,
+        record: None,
+        offset: None,
+        line: None,
+        what,
+    }
+}
+
+/// How many records a file has, and their numbers.
+fn numbered(records: u32) -> String {
+    match records {
+        0 => "the file has no record".to_owned(),
+        1 => "the file has 1 record, record 0".to_owned(),
+        records => format!("the file has {records} records, 0 to {}", records - 1),
+    }
+}
+
+/// The first refusal that a record meets, and where.
+fn search_in(
+    pattern: &Pattern,
+    permitted: &Permitted,
+    number: u32,
+    record: &Record,
+    begins: &mut Begins,
+) -> Option<Met> {
+    let found = search_record(pattern, permitted, number, record, begins)?;
+    let offset = found.offset;
+    let place = Place {
+        section: Some(found.section),
+        byte: found.byte,
+        record: Some(number),
+        offset,
+        line: offset.and_then(|offset| pattern.line(number, offset).ok()?),
+        what: found.what,
+    };
+    Some((found.refusal, place))
 }
 
 /// Why the records do not form one whole tree.

@@ -1,6 +1,6 @@
 //! Where a refusal of loading lies: a reading of the file's bytes, forward as the papers say.
 
-use super::Place;
+use super::{Met, Place};
 use crate::allowance::Allowance;
 use crate::hint::looks_like;
 use crate::tables::{
@@ -24,9 +24,6 @@ const HEADER: Option<&str> = Some("header");
 
 /// A name index that stands for no name.
 const UNNAMED: u32 = 65_535;
-
-/// The number of a refusal, and where it lies.
-type Met = (u32, Place);
 
 /// The first refusal that reading meets under an allowance, and where.
 pub fn search(file: &[u8], allowance: Allowance) -> Option<Met> {

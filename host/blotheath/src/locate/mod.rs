@@ -39,9 +39,53 @@ pub fn locate_within(
     pattern: Option<&Pattern>,
     refusal: Refusal,
 ) -> Option<Place> {
-    let (number, place) = match pattern {
+    let met = match pattern {
         Some(pattern) => examined::search(pattern, permitted),
         None => forward::search(file, allowance),
-    }?;
+    };
+    at(met, refusal)
+}
+
+/// The place of the refusal of one record by itself, under the desktop's allowance, every opcode being permitted.
+pub fn locate_record(
+    file: &[u8],
+    pattern: Option<&Pattern>,
+    record: u32,
+    refusal: Refusal,
+) -> Option<Place> {
+    let permitted = Permitted::everything();
+    locate_record_within(
+        file,
+        Allowance::DESKTOP,
+        &permitted,
+        pattern,
+        record,
+        refusal,
+    )
+}
+
+/// The place of the refusal of one record by itself under an allowance: over the pattern that the file loads to that of the record, whatever refuses
+/// another, by loading over its bytes alone.
+pub fn locate_record_within(
+    file: &[u8],
+    allowance: Allowance,
+    permitted: &Permitted,
+    pattern: Option<&Pattern>,
+    record: u32,
+    refusal: Refusal,
+) -> Option<Place> {
+    let met = match pattern {
+        Some(pattern) => examined::search_single(pattern, permitted, record),
+        None => forward::search(file, allowance),
+    };
+    at(met, refusal)
+}
+
+/// The number of a refusal that a search meets, and where.
+type Met = (u32, Place);
+
+/// The place of what a search meets, where that is the refusal.
+fn at(met: Option<Met>, refusal: Refusal) -> Option<Place> {
+    let (number, place) = met?;
     (number == refusal.number()).then_some(place)
 }

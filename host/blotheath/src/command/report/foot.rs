@@ -1,8 +1,8 @@
 //! The page's foot: which build wrote it, when, and from which files.
 
-use super::date;
 use super::html::escape;
 use super::page::Page;
+use crate::command::date;
 use crate::command::{sha256, text};
 use blotheath::{FILE_LIMIT, IDENTITY, Identity};
 use std::io::{self, Write};

@@ -3,7 +3,6 @@
 mod cards;
 mod checklist;
 mod constants;
-mod date;
 mod fold;
 mod foot;
 mod hex;
@@ -17,6 +16,7 @@ mod steps;
 mod tree;
 
 use super::beside::stranger;
+use super::scope::Scope;
 use super::source::{self, Source};
 use super::style::Style;
 use super::terms::{self, Terms};
@@ -63,7 +63,7 @@ pub fn run(
         Ok(output) => output,
         Err(fault) => return Ok(unusable(&output_name, &fault)),
     };
-    let verdict = judge(&file);
+    let verdict = judge(&file, Scope::File);
     if let (Some(source), Some(pattern)) = (&source, verdict.pattern())
         && let Some(fault) = stranger(source, pattern)
     {

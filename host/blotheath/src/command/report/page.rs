@@ -110,7 +110,7 @@ impl Page<'_> {
             shown.push('…');
         }
         let verdict = match self.verdict {
-            Verdict::Passes(_) => "passes".to_owned(),
+            Verdict::Passes(..) => "passes".to_owned(),
             Verdict::Refused { refusal, .. } => format!("refused by {}", refusal.number()),
         };
         format!(
@@ -130,7 +130,7 @@ impl Page<'_> {
             writeln!(out, "{}", proof::warning(doubt))?;
         }
         match self.verdict {
-            Verdict::Passes(_) => writeln!(
+            Verdict::Passes(..) => writeln!(
                 out,
                 "<p class=\"verdict passes\"><strong>Passes</strong> <span>It loads, and it meets none of the refusals 15 to 20, 25 and 32.</span></p>"
             )?,
@@ -221,7 +221,7 @@ impl Page<'_> {
     fn excess(&self) -> Option<String> {
         match self.verdict {
             Verdict::Refused { excess, .. } => excess.as_ref().map(allowance::beyond),
-            Verdict::Passes(_) => None,
+            Verdict::Passes(..) => None,
         }
     }
 
@@ -229,7 +229,7 @@ impl Page<'_> {
     fn other_opcodes(&self) -> Option<String> {
         match self.verdict {
             Verdict::Refused { forbidden, .. } => forbidden.as_ref()?.also(usize::MAX),
-            Verdict::Passes(_) => None,
+            Verdict::Passes(..) => None,
         }
     }
 

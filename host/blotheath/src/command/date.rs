@@ -1,18 +1,38 @@
-//! The date of a page.
+//! Dates and times, in UTC.
 
 use std::time::{SystemTime, UNIX_EPOCH};
 
 /// The date and time now, in UTC; none where the clock stands before 1970.
 pub fn now() -> Option<String> {
+    seconds().map(utc)
+}
+
+/// The time now, to the second, in UTC; none where the clock stands before 1970.
+pub fn time() -> Option<String> {
+    seconds().map(to_the_second)
+}
+
+/// The seconds since the start of 1970.
+fn seconds() -> Option<u64> {
     let since = SystemTime::now().duration_since(UNIX_EPOCH).ok()?;
-    Some(utc(since.as_secs()))
+    Some(since.as_secs())
 }
 
 /// The date and time of so many seconds behind the start of 1970, in UTC.
 fn utc(seconds: u64) -> String {
     let (year, month, day) = civil(seconds / 86_400);
-    let (hour, minute) = (seconds / 3_600 % 24, seconds / 60 % 60);
+    let (hour, minute) = hour_and_minute(seconds);
     format!("{year}-{month:02}-{day:02} {hour:02}:{minute:02} UTC")
+}
+
+/// The time of day of so many seconds behind the start of 1970, in UTC.
+fn to_the_second(seconds: u64) -> String {
+    let (hour, minute) = hour_and_minute(seconds);
+    format!("{hour:02}:{minute:02}:{:02}", seconds % 60)
+}
+
+fn hour_and_minute(seconds: u64) -> (u64, u64) {
+    (seconds / 3_600 % 24, seconds / 60 % 60)
 }
 
 /// The year, month and day of so many days behind the first of 1970, in the Gregorian calendar.
@@ -43,6 +63,17 @@ mod tests {
         assert_eq!(utc(951_782_400), "2000-02-29 00:00 UTC");
         assert_eq!(utc(1_709_251_199), "2024-02-29 23:59 UTC");
         assert_eq!(utc(4_107_542_400), "2100-03-01 00:00 UTC");
+    }
+
+    #[test]
+    fn times_of_day() {
+        for (seconds, right) in [
+            (0, "00:00:00"),
+            (951_782_399, "23:59:59"),
+            (1_709_251_199 + 3_661, "01:01:00"),
+        ] {
+            assert_eq!(to_the_second(seconds), right);
+        }
     }
 
     #[test]
