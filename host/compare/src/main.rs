@@ -55,8 +55,7 @@ compare examine [--files N] [--seed S]        examinations of the corpus, of cho
 compare follow [--files N] [--seed S]         chosen runs, and runs along any choices
 compare store --seed S --count N --calls FILE --lookups FILE
                                               writes stored reference answers
-compare replay [--calls FILE] [--lookups FILE]
-                                              replays stored reference answers
+compare replay PATH..                         replays stored reference answers
 compare bench [--rounds N]                    times of the port's load and the original's, with the feature port
 
 BLOTHEATH_CORPUS names the folder of real files; ../shared/corpus beside the repository if it is not set.

@@ -6,7 +6,7 @@ use crate::permitted::FORBIDDEN;
 use crate::rng::Rng;
 use crate::single;
 use crate::singled;
-use crate::store::{Stored, group_alone, replay_items};
+use crate::store::{group_alone, replay_items};
 use crate::subject::{Answer, Fetch, Follow, Found, Lookup, Model, Subject, give, lent};
 use model::{Allowance, EVERYTHING, Loaded, Reading, Refusal, Sizes, Tables};
 
@@ -363,9 +363,9 @@ fn mistakes() -> impl Iterator<Item = Mistake> {
 #[test]
 fn stored_calls_tell_mistakes() {
     let stored = group_alone(&singled::group());
-    assert!(replay_items(&Model, Stored::Calls, &stored).is_ok());
+    assert!(replay_items(&Model, &stored).is_ok());
     for mistake in mistakes() {
-        let replayed = replay_items(&Mistaken(mistake), Stored::Calls, &stored);
+        let replayed = replay_items(&Mistaken(mistake), &stored);
         assert!(replayed.is_err(), "{}", mistake.0);
     }
 }

@@ -24,13 +24,12 @@
 //! 8 W0 .. W8 N R0 .. R9 S F LENGTH CHOICES
 //!                           a follow of these bytes along choices, over a frame table of F words: refusal's number or 0, then finished,
 //!                           record, offset, found, line, frames and four zeros, the sum of all lent words, the frame table's last
-//! 9 W0 .. W8 N R0 .. R8 V S REC
-//!                           in the file of calls: an examination of a single record of these bytes, as a load, and the record's number
 //! 9 LOOKUP REC INDEX N A B C D E
-//!                           in the file of lookups: a lookup in these bytes and nine tables: refusal's number or 0, then the fields of its answer,
-//!                           zeros behind them
+//!                           a lookup in these bytes and nine tables: refusal's number or 0, then the fields of its answer, zeros behind them
 //! 10 REC INDEX N KIND PLACE LENGTH INT FLOAT
 //!                           a constant's lookup; INT has eight bytes, high byte first, FLOAT eight, low byte first
+//! 11 W0 .. W8 N R0 .. R8 V S REC
+//!                           an examination of a single record of these bytes, as a load, and the record's number
 //! ```
 //!
 //! The nine tables are those of `model::NAMES`, always in this order, with rows of `model::ROW_WORDS` words. The first has at most three rows more
@@ -98,8 +97,8 @@ const ONE_ROW: Sizes = Sizes(ROW_WORDS);
 const MOST_FRAMES: usize = 2_048;
 /// The most words of a stored item of words.
 const MOST_WORDS: usize = 512;
-/// The kind of an examination of a single record, in the file of calls.
-const SINGLE: u32 = 9;
+/// The kind of an examination of a single record.
+const SINGLE: u32 = 11;
 
 /// `compare store`
 pub fn write(args: &Args) -> Result<(), Stop> {
@@ -1130,31 +1129,14 @@ fn maps(store: &mut Store, seed: u64) {
     store.bytes(6, b"line lookups");
 }
 
-/// What a file of stored answers has: each of the two has kinds of its own.
-#[derive(Debug, Clone, Copy, PartialEq, Eq)]
-pub enum Stored {
-    Calls,
-    Lookups,
-}
-
 /// `compare replay`
 pub fn replay(args: &Args) -> Result<(), Stop> {
-    args.only(&["--calls", "--lookups"]).map_err(Stop::Usage)?;
-    let files = [
-        (args.text("--calls"), Stored::Calls),
-        (args.text("--lookups"), Stored::Lookups),
-    ];
-    if !args.paths.is_empty() || files.iter().all(|(path, _)| path.is_none()) {
-        let why = "replay takes --calls, --lookups or both";
-        return Err(Stop::Usage(why.to_owned()));
-    }
-    for (path, stored) in files {
-        let Some(path) = path else {
-            continue;
-        };
-        let bytes = fs::read(path).map_err(|error| Stop::Usage(format!("{path}: {error}")))?;
+    args.only(&[]).map_err(Stop::Usage)?;
+    for path in &args.paths {
+        let bytes =
+            fs::read(path).map_err(|error| Stop::Usage(format!("{}: {error}", path.display())))?;
         for subject in subjects() {
-            let groups = replay_items(&*subject, stored, &bytes)
+            let groups = replay_items(&*subject, &bytes)
                 .map_err(|why| Stop::Difference(format!("{}: {why}", subject.name())))?;
             for (name, answers) in groups {
                 println!(
@@ -1217,20 +1199,15 @@ fn tables_of(words: &[u32]) -> Result<Tables, String> {
 }
 
 /// Replays stored answers with a subject; answers each group's name and number of answers.
-pub fn replay_items(
-    subject: &dyn Subject,
-    stored: Stored,
-    bytes: &[u8],
-) -> Result<Vec<(String, usize)>, String> {
-    let all = bytes;
+pub fn replay_items(subject: &dyn Subject, stored: &[u8]) -> Result<Vec<(String, usize)>, String> {
     let mut rng = Rng::new(0, 0);
-    let mut items = Items { left: all };
+    let mut items = Items { left: stored };
     let mut groups = Vec::new();
     let mut answers = 0;
     let mut bytes: &[u8] = &[];
     let mut map = Vec::new();
     loop {
-        let at = all.len() - items.left.len();
+        let at = stored.len() - items.left.len();
         let wrong =
             |answer: &dyn std::fmt::Debug| Err(format!("byte {at}: the answer is {answer:?}"));
         let kind = items.number()?;
@@ -1240,7 +1217,7 @@ pub fn replay_items(
                 let length = items.number()? as usize;
                 bytes = items.bytes(length)?;
             }
-            9 | 10 if stored == Stored::Lookups => {
+            9 | 10 => {
                 let lookup = match kind {
                     9 => *LOOKUPS
                         .get(items.number()? as usize)
@@ -1368,17 +1345,16 @@ mod tests {
 
     /// What the model answers to stored calls.
     fn replayed(bytes: &[u8]) -> Result<Vec<(String, usize)>, String> {
-        replay_items(&Model, Stored::Calls, bytes)
+        replay_items(&Model, bytes)
     }
 
     /// Holds that a replay sees every change of numbers: places, and how many stand there one behind the other.
-    fn sees_every_number(stored: Stored, bytes: &[u8], places: &[(usize, usize)]) {
+    fn sees_every_number(bytes: &[u8], places: &[(usize, usize)]) {
         for (at, numbers) in places {
             for number in 0..*numbers {
                 let mut changed = bytes.to_vec();
                 changed[at + 4 * number + 3] ^= 1;
-                let replayed = replay_items(&Model, stored, &changed);
-                assert!(replayed.is_err(), "{at} {number}");
+                assert!(replayed(&changed).is_err(), "{at} {number}");
             }
         }
     }
@@ -1569,7 +1545,7 @@ mod tests {
         let answers = [call, run, finished, single, missing].map(|at| (at + 40, 12));
         let records = [single, missing].map(|at| (at + 88, 1));
         let places = [&answers[..], &records].concat();
-        sees_every_number(Stored::Calls, &store.bytes, &places);
+        sees_every_number(&store.bytes, &places);
     }
 
     #[test]
@@ -1590,8 +1566,7 @@ mod tests {
         store.item(0, []);
         let groups = Ok(vec![("all".to_owned(), 2)]);
         let bytes = store.bytes;
-        assert_eq!(replay_items(&Model, Stored::Lookups, &bytes), groups);
-        assert!(replayed(&bytes).is_err());
-        sees_every_number(Stored::Lookups, &bytes, &[(looked + 16, 6), (pool + 12, 8)]);
+        assert_eq!(replayed(&bytes), groups);
+        sees_every_number(&bytes, &[(looked + 16, 6), (pool + 12, 8)]);
     }
 }
