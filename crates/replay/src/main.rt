@@ -135,7 +135,7 @@ fn allowance_of(all: &[u8], s: State) -> Allowance {
     }
 }
 
-// A load, an examination or a follow, by the kind of its item.
+// A load, an examination of the whole or of a single record, or a follow, by the kind of its item.
 fn call(
     kind: u32,
     file: &[u8],
@@ -152,6 +152,7 @@ fn call(
     choices: &[u8],
     allowance: Allowance,
     permitted: &[u8],
+    rec: u32,
 ) -> [u32; 11] {
     match kind {
         2 => of_loaded(boundary::loaded(rite::load(
@@ -180,6 +181,21 @@ fn call(
             lines,
             allowance,
             permitted,
+        ))),
+        11 => of_loaded(boundary::loaded(examine::examine_record(
+            file,
+            records,
+            handlers,
+            pool,
+            symbols,
+            strings,
+            names,
+            filenames,
+            files,
+            lines,
+            allowance,
+            permitted,
+            rec,
         ))),
         _ => of_followed(boundary::followed(follow::follow(
             file,
@@ -216,6 +232,7 @@ fn call_summed(
     choices: &[u8],
     allowance: Allowance,
     permitted: &[u8],
+    rec: u32,
 ) -> Outcome {
     let numbers = call(
         kind,
@@ -233,6 +250,7 @@ fn call_summed(
         choices,
         allowance,
         permitted,
+        rec,
     );
     let of_nine = sum_of_all(
         records,
@@ -259,6 +277,7 @@ fn call_sized(
     choices: &[u8],
     allowance: Allowance,
     permitted: &[u8],
+    rec: u32,
 ) -> Outcome {
     let mut records = [3735928559u32; RECORD_WORDS];
     let mut handlers = [3735928559u32; 8192];
@@ -296,6 +315,7 @@ fn call_sized(
         choices,
         allowance,
         permitted,
+        rec,
     )
 }
 
@@ -308,6 +328,7 @@ fn call_listed(
     frame_words: usize,
     choices: &[u8],
     permitted: &[u8],
+    rec: u32,
 ) -> bool {
     let end = least(ahead(s.file, s.bytes), all.len());
     let start = least(s.file, end);
@@ -320,26 +341,41 @@ fn call_listed(
         choices,
         allowance_of(all, s),
         permitted,
+        rec,
     );
     outcome_agrees(o, all, ahead(at, 36))
 }
 
 // The same for the list behind the allowance, or for one that permits everything.
-fn call_at(kind: u32, all: &[u8], s: State, at: usize, frame_words: usize, choices: &[u8]) -> bool {
+fn call_at(
+    kind: u32,
+    all: &[u8],
+    s: State,
+    at: usize,
+    frame_words: usize,
+    choices: &[u8],
+    rec: u32,
+) -> bool {
     if s.rows <= ALLOWANCE_WORDS {
         let everything = [1u8; OPCODES];
-        return call_listed(kind, all, s, at, frame_words, choices, &everything);
+        return call_listed(kind, all, s, at, frame_words, choices, &everything, rec);
     }
     let list = ahead(s.map, 12);
     let bytes = word(all, ahead(s.map, 8)) as usize;
     let end = least(ahead(list, bytes), all.len());
     let start = least(list, end);
-    call_listed(kind, all, s, at, frame_words, choices, &all[start..end])
+    call_listed(kind, all, s, at, frame_words, choices, &all[start..end], rec)
 }
 
 // A load or an examination.
 fn load_item(kind: u32, all: &[u8], s: State) -> State {
-    answered(s, call_at(kind, all, s, ahead(s.at, 4), 0, &all[0..0]), 88)
+    answered(s, call_at(kind, all, s, ahead(s.at, 4), 0, &all[0..0], 0), 88)
+}
+
+// An examination of a single record, whose number stands last.
+fn single_item(all: &[u8], s: State) -> State {
+    let rec = word(all, ahead(s.at, 88));
+    answered(s, call_at(11, all, s, ahead(s.at, 4), 0, &all[0..0], rec), 92)
 }
 
 fn follow_item(all: &[u8], s: State) -> State {
@@ -348,7 +384,7 @@ fn follow_item(all: &[u8], s: State) -> State {
     let choices = ahead(s.at, 96);
     let end = least(ahead(choices, bytes), all.len());
     let start = least(choices, end);
-    let agrees = call_at(8, all, s, ahead(s.at, 4), frame_words, &all[start..end]);
+    let agrees = call_at(8, all, s, ahead(s.at, 4), frame_words, &all[start..end], 0);
     answered(s, agrees, ahead(bytes, 96))
 }
 
@@ -377,6 +413,7 @@ fn item(all: &[u8], s: State) -> State {
         4 => at_words(all, s),
         7 => load_item(7, all, s),
         8 => follow_item(all, s),
+        11 => single_item(all, s),
         6 => group_item(all, s),
         _ => ended(s),
     }
