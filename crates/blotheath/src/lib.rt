@@ -19,7 +19,7 @@ ghost use Rattle.format.specs.Line.{lineAt, mapOf};
 ghost use Rattle.format.specs.Allowance.{allowance};
 ghost use Rattle.format.specs.Load.{load};
 ghost use Rattle.format.specs.Lookup as lookup;
-ghost use Rattle.format.specs.Exam.{examine};
+ghost use Rattle.format.specs.Exam.{examine, examineOne};
 ghost use Rattle.format.specs.Run.{follow};
 ghost use Rattle.rite.specs.Answers.{words, sizes};
 ghost use Rattle.boundary_steps.specs.Structs.{fetchedIs, lineIs};
@@ -266,6 +266,51 @@ pub extern "C" fn blotheath_examine(
             records: max_records,
         },
         permitted,
+    ))
+}
+
+// Examines record `rec` of such a file by itself.
+#[no_mangle]
+pub extern "C" fn blotheath_examine_record(
+    file: &[u8],
+    max_bytes: u32,
+    max_records: u32,
+    permitted: &[u8],
+    records: &mut [u32],
+    handlers: &mut [u32],
+    pool: &mut [u32],
+    symbols: &mut [u32],
+    strings: &mut [u32],
+    names: &mut [u32],
+    filenames: &mut [u32],
+    files: &mut [u32],
+    lines: &mut [u32],
+    rec: u32,
+) -> BlotheathLoaded
+    ensures { λ r. ⌜ exported r (words (now (records .exit)) (now (handlers .exit)) (now (pool .exit)) (now (symbols .exit)) (now (strings .exit)) (now (names .exit))
+        (now (filenames .exit)) (now (files .exit)) (now (lines .exit)))
+        ≡ loadedIs (examineOne (now (file .entry)) (sizes
+        (words (now (records .entry)) (now (handlers .entry)) (now (pool .entry)) (now (symbols .entry)) (now (strings .entry)) (now (names .entry))
+        (now (filenames .entry)) (now (files .entry)) (now (lines .entry)))) (allowance «max_bytes» «max_records»)
+        (now (permitted .entry)) rec) ⌝ }
+{
+    boundary::loaded(examine::examine_record(
+        file,
+        records,
+        handlers,
+        pool,
+        symbols,
+        strings,
+        names,
+        filenames,
+        files,
+        lines,
+        Allowance {
+            bytes: max_bytes,
+            records: max_records,
+        },
+        permitted,
+        rec,
     ))
 }
 

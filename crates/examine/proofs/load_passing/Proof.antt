@@ -20,8 +20,8 @@ returns c =
     let allow = allowanceOf (a .a) in
     let last = kept .examine-kept .last in
     let left =
-        words (last .1 .0) (last .1 .1 .0) (last .1 .1 .1 .0) (last .1 .1 .1 .1 .0) (last .1 .1 .1 .1 .1 .0)
-        (last .1 .1 .1 .1 .1 .1 .0) (last .1 .1 .1 .1 .1 .1 .1 .0) (last .1 .1 .1 .1 .1 .1 .1 .1 .0) (last .1 .1 .1 .1 .1 .1 .1 .1 .1 .0) in
+    words (last .1 .0) (last .1 .1 .0) (last .1 .1 .1 .0) (last .1 .1 .1 .1 .0) (last .1 .1 .1 .1 .1 .0)
+    (last .1 .1 .1 .1 .1 .1 .0) (last .1 .1 .1 .1 .1 .1 .1 .0) (last .1 .1 .1 .1 .1 .1 .1 .1 .0) (last .1 .1 .1 .1 .1 .1 .1 .1 .1 .0) in
     went (a .asked) (a .f .now) (sizes lent) allow (a .permitted .now) left (kept .examine-kept .result) (kept .examine-kept .ensures) (used .u .given .0 .0) (used .u .given .1)
 
 same-length-10 : tie.Need-same-length-10
@@ -98,8 +98,8 @@ returns-2 c =
     let allow = allowanceOf (a .a) in
     let last = kept .examine-kept .last in
     let left =
-        words (last .1 .0) (last .1 .1 .0) (last .1 .1 .1 .0) (last .1 .1 .1 .1 .0) (last .1 .1 .1 .1 .1 .0)
-        (last .1 .1 .1 .1 .1 .1 .0) (last .1 .1 .1 .1 .1 .1 .1 .0) (last .1 .1 .1 .1 .1 .1 .1 .1 .0) (last .1 .1 .1 .1 .1 .1 .1 .1 .1 .0) in
+    words (last .1 .0) (last .1 .1 .0) (last .1 .1 .1 .0) (last .1 .1 .1 .1 .0) (last .1 .1 .1 .1 .1 .0)
+    (last .1 .1 .1 .1 .1 .1 .0) (last .1 .1 .1 .1 .1 .1 .1 .0) (last .1 .1 .1 .1 .1 .1 .1 .1 .0) (last .1 .1 .1 .1 .1 .1 .1 .1 .1 .0) in
     let zeros = cleared .clear-all .last in
     let kept-lengths = kept .examine-kept .kept in
     let same = same-sizes left lent (record {
@@ -128,8 +128,8 @@ returns-3 c =
     let allow = allowanceOf (a .a) in
     let last = kept .examine-kept .last in
     let left =
-        words (last .1 .0) (last .1 .1 .0) (last .1 .1 .1 .0) (last .1 .1 .1 .1 .0) (last .1 .1 .1 .1 .1 .0)
-        (last .1 .1 .1 .1 .1 .1 .0) (last .1 .1 .1 .1 .1 .1 .1 .0) (last .1 .1 .1 .1 .1 .1 .1 .1 .0) (last .1 .1 .1 .1 .1 .1 .1 .1 .1 .0) in
+    words (last .1 .0) (last .1 .1 .0) (last .1 .1 .1 .0) (last .1 .1 .1 .1 .0) (last .1 .1 .1 .1 .1 .0)
+    (last .1 .1 .1 .1 .1 .1 .0) (last .1 .1 .1 .1 .1 .1 .1 .0) (last .1 .1 .1 .1 .1 .1 .1 .1 .0) (last .1 .1 .1 .1 .1 .1 .1 .1 .1 .0) in
     stopped (a .asked) (a .f .now) (sizes lent) allow (a .permitted .now) left (kept .examine-kept .result) (kept .examine-kept .ensures) (told .e2 .given .0 .0) (told .e2 .given .1)
 
 pub load-passing-spec : {M : Type 1} → statement M
