@@ -34,9 +34,9 @@ module _ (f recs hs ls : List ℕ) (n : ℕ) where
     missing h = rw (pattern-length, le-ltb i n h)
 
     -- one that is there is examined by itself
-    pub single-is : i < n → examineAll q (recordsBetween f recs hs ls i (i + 1)) ≡ examineSingle q i (patternAt f recs hs ls n)
+    pub single-is : (r : ℕ) → r ≡ i → r < n → examineAll q (recordsBetween f recs hs ls r (r + 1)) ≡ examineSingle q i (patternAt f recs hs ls n)
     unfolding examineSingle examineAll
-    single-is h =
+    single-is r e h =
         let row = recordAt f recs hs ls in
-        rw (rows-turn row i (i + 1) (omega arith), rows-end row (i + 1) (i + 1) (omega arith), pattern-length, lt-ltb i n h, rowsFrom-at row 0 n i blank h, zero-add)
-        (first-alone (examineRecord q (row i)))
+        rw (← e, rows-turn row r (r + 1) (omega arith), rows-end row (r + 1) (r + 1) (omega arith), pattern-length, lt-ltb r n h, rowsFrom-at row 0 n r blank h, zero-add)
+        (first-alone (examineRecord q (row r)))

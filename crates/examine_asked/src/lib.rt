@@ -12,6 +12,13 @@ pub enum Asked {
     Single(u32),
 }
 
+// Where a record stands among the others.
+fn place(rec: u32) -> usize
+    ensures { λ r. ⌜ r ≡ rec ⌝ }
+{
+    rec as usize
+}
+
 // Examination of record `rec` of the first `n`: 22 where it is missing, else the number of the first condition of 16 to 20, 25 and 32 that it meets,
 // 0 where it passes by itself.
 pub fn examine_single(
@@ -26,11 +33,12 @@ pub fn examine_single(
     requires { ⌜ Fits (now file) (now records) (now handlers) (now lines) n ⌝ }
     ensures { λ x. ⌜ x ≡ examineSingle (now (permitted .entry)) rec (patternAt (now (file .entry)) (now (records .entry)) (now (handlers .entry)) (now (lines .entry)) n) ⌝ }
 {
-    let r = rec as usize;
-    if r >= n {
+    let r = place(rec);
+    let next = r + 1;
+    if next > n {
         return 22;
     }
-    examine_records(file, records, handlers, lines, r, r + 1, permitted)
+    examine_records(file, records, handlers, lines, r, next, permitted)
 }
 
 // The number that answers what is asked of the first `n` records, 0 where they pass: 14 where the whole pattern has more records than it may.

@@ -364,18 +364,35 @@ fn call_at(
     let bytes = word(all, ahead(s.map, 8)) as usize;
     let end = least(ahead(list, bytes), all.len());
     let start = least(list, end);
-    call_listed(kind, all, s, at, frame_words, choices, &all[start..end], rec)
+    call_listed(
+        kind,
+        all,
+        s,
+        at,
+        frame_words,
+        choices,
+        &all[start..end],
+        rec,
+    )
 }
 
 // A load or an examination.
 fn load_item(kind: u32, all: &[u8], s: State) -> State {
-    answered(s, call_at(kind, all, s, ahead(s.at, 4), 0, &all[0..0], 0), 88)
+    answered(
+        s,
+        call_at(kind, all, s, ahead(s.at, 4), 0, &all[0..0], 0),
+        88,
+    )
 }
 
 // An examination of a single record, whose number stands last.
 fn single_item(all: &[u8], s: State) -> State {
     let rec = word(all, ahead(s.at, 88));
-    answered(s, call_at(11, all, s, ahead(s.at, 4), 0, &all[0..0], rec), 92)
+    answered(
+        s,
+        call_at(11, all, s, ahead(s.at, 4), 0, &all[0..0], rec),
+        92,
+    )
 }
 
 fn follow_item(all: &[u8], s: State) -> State {
