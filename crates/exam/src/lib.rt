@@ -106,7 +106,7 @@ fn examine_part(
 }
 
 // Examination of record `r` by a list in full: the number of the first condition of 16 to 20, 25 and 32 that it meets, 0 where it passes.
-pub fn examine_record(
+fn examine_record(
     file: &[u8],
     records: &[u32],
     handlers: &[u32],
