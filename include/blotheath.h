@@ -13,7 +13,7 @@
 
    Stack. No theorem bounds it. blotheath_load and blotheath_load_records need at most 448 KiB of stack, blotheath_examine, blotheath_examine_record
    and blotheath_follow at most 512 KiB: a chain of 1,024 records is the deepest, and the host's tests run it in threads of that stack. Every other
-   call takes under 1 KiB, as measured. What a compiler writes needs far less: some 10 KiB for a load, 80 KiB for an examination or a run, and half a
+   call takes under 1 KiB, as measured. What a compiler writes needs far less: some 10 KiB for a load, 70 KiB for an examination or a run, and half a
    KiB for each level of nesting.
 
    Allowances. blotheath_load, blotheath_load_records, blotheath_examine, blotheath_examine_record and blotheath_follow are told, directly behind the
