@@ -82,6 +82,7 @@ module _ (f : List ℕ) (m : Nine) (allow : Allowance) (q : List ℕ) where
           rw (l, le-leb (length (recordsOf c)) 1024 few)
       go (refused n) l = rw l
 
+  -- a single record is what its call examines
   pub single-is : (i : ℕ) → askedIn (asked.Single i) f m allow q ≡ examiningSingle f m allow q i
   unfolding examiningSingle
   single-is i = refl
