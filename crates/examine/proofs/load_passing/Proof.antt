@@ -114,8 +114,10 @@ returns-2 c =
       lines = kept-lengths .1 .1 .1 .1 .1 .1 .1 .1 .1 .0;
     }) in
     met-cleared (a .asked) (a .f .now) (sizes lent) allow (a .permitted .now) left (kept .examine-kept .result) (kept .examine-kept .ensures) (told .e .given .0 .0) (told .e .given .1)
-    (words (zeros .0) (zeros .1 .0) (zeros .1 .1 .0) (zeros .1 .1 .1 .0) (zeros .1 .1 .1 .1 .0) (zeros .1 .1 .1 .1 .1 .0) (zeros .1 .1 .1 .1 .1 .1 .0) (zeros .1 .1 .1 .1 .1 .1 .1 .0) (zeros .1 .1 .1 .1 .1 .1 .1 .1 .0))
-    (zero-words left (zeros .0) (zeros .1 .0) (zeros .1 .1 .0) (zeros .1 .1 .1 .0) (zeros .1 .1 .1 .1 .0) (zeros .1 .1 .1 .1 .1 .0) (zeros .1 .1 .1 .1 .1 .1 .0) (zeros .1 .1 .1 .1 .1 .1 .1 .0) (zeros .1 .1 .1 .1 .1 .1 .1 .1 .0)
+    (words (zeros .0) (zeros .1 .0) (zeros .1 .1 .0) (zeros .1 .1 .1 .0) (zeros .1 .1 .1 .1 .0)
+    (zeros .1 .1 .1 .1 .1 .0) (zeros .1 .1 .1 .1 .1 .1 .0) (zeros .1 .1 .1 .1 .1 .1 .1 .0) (zeros .1 .1 .1 .1 .1 .1 .1 .1 .0))
+    (zero-words left (zeros .0) (zeros .1 .0) (zeros .1 .1 .0) (zeros .1 .1 .1 .0) (zeros .1 .1 .1 .1 .0)
+    (zeros .1 .1 .1 .1 .1 .0) (zeros .1 .1 .1 .1 .1 .1 .0) (zeros .1 .1 .1 .1 .1 .1 .1 .0) (zeros .1 .1 .1 .1 .1 .1 .1 .1 .0)
     (cleared .clear-all .ensures) ∙ ap (λ x. wordsOf x (tablesOf nothing)) same)
 
 returns-3 : tie.Need-returns-3
