@@ -12,19 +12,19 @@ use Rattle.format.specs.Bytes.{Answer, ok, refused, bind}
 use Rattle.format.specs.Allowance.{Allowance}
 use Rattle.format.specs.File.{Content, nothing}
 use Rattle.format.specs.Load as format
-use Rattle.format.specs.Load.{Nine, recordsOf, tablesOf, Counts, counts, fits, Words, wordsOf, loading, laid, load}
+use Rattle.format.specs.Load.{Nine, recordsOf, tablesOf, Counts, fits, Words, wordsOf, loading, laid, load}
 use Rattle.format.specs.Pattern.{patternOf}
-use Rattle.format.specs.Exam.{passing, examining, passingSingle, examiningSingle}
+use Rattle.format.specs.Exam.{passing, examining, examiningSingle}
 use Rattle.format.proofs.Table.{both}
 use Rattle.format.proofs.Places.{records-length}
 use Rattle.layout.proofs.Inside.{loading-reading}
 use Rattle.sections.specs.declared.Used.{Used}
 use Rattle.file.specs.declared.Loaded.{Loaded}
 use Rattle.file.specs.declared.Loaded.the-variants as loaded
-use Rattle.rite.specs.Answers.{countsOf, loadedOf}
+use Rattle.rite.specs.Answers.{loadedOf}
 use Rattle.examine_asked.specs.declared.Asked.{Asked}
 use Rattle.examine_asked.specs.declared.Asked.the-variants as asked
-use Rattle.examine_asked.specs.Asked.{refusalOf, answering}
+use Rattle.examine_asked.specs.Asked.{refusalOf}
 use Rattle.examine_kept.specs.Kept.{askedIn, Examined, examineKept, keptOf}
 use Rattle.examine_kept.specs.declared.Kept.{Kept}
 use Rattle.examine_kept.specs.declared.Kept.the-variants as kept

@@ -3,12 +3,11 @@
 use Prim.Native.Nat.{ℕ, zero, suc, _+_, _≤_, _<_}
 use native.Mathlib.Nat.{zero-add}
 use native.Mathlib.Omega.{arith}
-use mathlib.Core.Path.{_≡_, refl, sym, ap, _∙_}
-use mathlib.Core.List.{List, [], _∷_}
+use mathlib.Core.Path.{_≡_, refl}
+use mathlib.Core.List.{List}
 use lib.ListN.{length}
 use borrow.Author.Tests.{lt-ltb, le-ltb}
 use Rattle.format.specs.Bytes.{first}
-use Rattle.format.specs.Line.{rowsFrom}
 use Rattle.format.specs.Pattern.{blank}
 use Rattle.format.specs.Exam.{examineRecord, examineAll, examineSingle}
 use Rattle.format.proofs.RowsFrom.{rowsFrom-length, rowsFrom-at, rows-turn, rows-end}

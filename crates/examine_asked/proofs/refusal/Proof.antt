@@ -1,10 +1,7 @@
 -- `examine_asked::refusal` meets its contract.
 -- Assumes nothing.
 use native.Mathlib.Omega.{arith}
-use mathlib.Core.Path.{_≡_, sym, ap, _∙_}
 use borrow.Author.Tests.{le-leb, lt-leb}
-use Rattle.exam.specs.View.{patternAt}
-use Rattle.examine_asked.specs.Asked.{refusalOf}
 use Rattle.examine_asked.proofs.Single.{pattern-length}
 use borrow.Author.Needs.{needs}
 use Rattle.examine_asked.proofs.refusal.Statement.{statement}
