@@ -33,7 +33,8 @@ laid_back (f ∷ fs) z =
     let r : get_or (l ++ f.rec ∷ f.at ∷ z) (length fs * 2) 0 ≡ f.rec = get_or_at l f.rec (f.at ∷ z) 0 (length fs * 2) q in
     let o : get_or (l ++ f.rec ∷ f.at ∷ z) (length fs * 2 + 1) 0 ≡ f.at
     = rw (← append_snoc l f.rec (f.at ∷ z)) (get_or_at (l ++ f.rec ∷ []) f.at z 0 (length fs * 2 + 1) (omega (arith, length-append l (f.rec ∷ [])))) in
-    rw (a, r, o, laid_back fs (f.rec ∷ f.at ∷ z))
+    let b : frames_of ((l ++ f.rec ∷ f.at ∷ []) ++ z) (length fs) ≡ fs = rw a (laid_back fs (f.rec ∷ f.at ∷ z)) in
+    rw (b, a, r, o)
 
 pub frames_back : (n : ℕ) (fs : List Frame) → frames_of (frame_table n fs) (length fs) ≡ fs
 unfolding frame_table
