@@ -1,4 +1,6 @@
 // Fields of two and four bytes, and the bytes of one of eight.
+#![tactic(auto)]
+
 ghost use Rattle.std.specs.Prelude.{◌≡◌, ◌+◌, ◌-◌, ◌≤◌, ◌<◌, length};
 ghost use Rattle.format.specs.Bytes.{byte, eight_at, u16_at, u32_at, reads};
 ghost use Rattle.binfmt.specs.Answers.{field16_of, field32_of};

@@ -1,4 +1,6 @@
 // The C boundary: total calls on numbers and slices, with answers that are structs of numbers.
+#![tactic(auto)]
+
 ghost use Rattle.std.specs.Prelude.{◌≡◌, length};
 ghost use Rattle.format.specs.Insn.{fetch};
 ghost use Rattle.format.specs.Line.{line_at, map_of};

@@ -1,5 +1,7 @@
 // What a load's, an examination's or a run's answer is at the C boundary: a struct of numbers. A refusal is its number, 0 for none, and after one all
 // else is 0.
+#![tactic(auto)]
+
 ghost use Rattle.std.specs.Prelude.{◌≡◌};
 ghost use Rattle.rite.specs.Answers as rite;
 ghost use Rattle.run.specs.Answers as run;

@@ -1,4 +1,6 @@
 // What each lookup's answer is at the C boundary: a struct of numbers. A refusal is its number, 0 for none, and after one all else is 0.
+#![tactic(auto)]
+
 ghost use Rattle.std.specs.Prelude.{◌≡◌};
 ghost use Rattle.constant.specs.Answers as constant;
 ghost use Rattle.ranges.specs.Answers as ranges;

@@ -1,4 +1,6 @@
 // What a fetched instruction and a line are at the C boundary: a struct of numbers. A refusal is its number, 0 for none, and after one all else is 0.
+#![tactic(auto)]
+
 ghost use Rattle.std.specs.Prelude.{◌≡◌};
 ghost use Rattle.insn.specs.Answers as insn;
 ghost use Rattle.line.specs.Answers as line;

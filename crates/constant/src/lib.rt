@@ -1,4 +1,6 @@
 // Constants: what the bytes of a pool row are, by its kind.
+#![tactic(auto)]
+
 ghost use Rattle.std.specs.Prelude.{◌≡◌, ◌+◌, ◌≤◌, length};
 ghost use Rattle.format.specs.Bytes.{int32_at, int64_at, float64_at};
 ghost use Rattle.format.specs.Rows.{text_row};

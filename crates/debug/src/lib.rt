@@ -1,4 +1,6 @@
 // The DBG section: its file names, then the debug files of each record that the walk visits with their lines, put into lent tables of words.
+#![tactic(auto)]
+
 ghost use Rattle.std.specs.Prelude.{◌≡◌, ◌+◌, ◌*◌, ◌≤◌, ◌<◌, length};
 ghost use Rattle.std.proofs.Math.Option.{none};
 ghost use Rattle.format.specs.Debug.{above, file_head};
@@ -39,7 +41,7 @@ enum Head {
 }
 
 // The rows used of the table of debug files and of that of lines.
-#[derive(Drop)]
+#[derive(Clone, Copy)]
 struct Used {
     files: u32,
     lines: u32,

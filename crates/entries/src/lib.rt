@@ -1,4 +1,6 @@
 // What an entry of a table says: a handler, a constant, a name.
+#![tactic(auto)]
+
 ghost use Rattle.std.specs.Prelude.{◌≡◌, ◌/◌, ◌<◌, length};
 ghost use Rattle.format.specs.Bytes.{ok};
 ghost use Rattle.format.specs.Lookup as format;

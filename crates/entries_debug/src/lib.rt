@@ -1,4 +1,6 @@
 // What a debug file's row says, and the line of an offset in a map.
+#![tactic(auto)]
+
 ghost use Rattle.std.specs.Prelude.{◌≡◌, ◌/◌, ◌<◌, length};
 ghost use Rattle.format.specs.Lookup as format;
 ghost use Rattle.ranges.specs.Leaves.{range};

@@ -1,4 +1,6 @@
 // Examination of a loaded pattern by a list of permitted opcodes: conditions 15 to 20, 25 and 32 over the file's bytes and the lent tables.
+#![tactic(auto)]
+
 ghost use Rattle.std.specs.Prelude.{◌≡◌, ◌+◌, ◌-◌, ◌*◌, ◌<◌, ◌≤◌, length, get_or};
 ghost use Rattle.format.specs.Line.{rising};
 ghost use Rattle.format.specs.Tree.{whole};

@@ -1,4 +1,6 @@
 // Examination of a file, or of one record of it: it is loaded, then tested for 15 to 20, 25 and 32; after a refusal every table is zeros alone.
+#![tactic(auto)]
+
 ghost use Rattle.std.specs.Prelude.{◌≡◌};
 ghost use Rattle.format.specs.Load.{laid};
 ghost use Rattle.format.specs.Exam.{examine, examine_one};

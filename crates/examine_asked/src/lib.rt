@@ -1,4 +1,6 @@
 // What is asked of a loaded pattern, the whole of it or one record by itself, and the number that answers it.
+#![tactic(auto)]
+
 ghost use Rattle.std.specs.Prelude.{◌≡◌};
 ghost use Rattle.format.specs.Exam.{examine_single};
 ghost use Rattle.exam.specs.View.{pattern_at, Fits};

@@ -1,4 +1,6 @@
 // A file that is loaded and then examined, with what was loaded kept, refused later or not.
+#![tactic(auto)]
+
 ghost use Rattle.std.specs.Prelude.{◌≡◌};
 ghost use Rattle.rite.specs.Answers.{words, sizes, allowance_of};
 ghost use Rattle.examine_kept.specs.Kept.{examine_kept, kept_of};

@@ -1,4 +1,6 @@
 // A caller's list of permitted opcodes, written in full, and what it says.
+#![tactic(auto)]
+
 ghost use Rattle.std.specs.Prelude.{◌&&◌, ◌≡◌, ◌≤◌, ◌<◌, ltb};
 ghost use Rattle.format.specs.Allowance.{least};
 ghost use Rattle.format.specs.Permitted.{permits};

@@ -1,4 +1,6 @@
 // A file's sections in turn, into nine lent tables.
+#![tactic(auto)]
+
 ghost use Rattle.std.specs.Prelude.{◌≡◌, ◌+◌, ◌≤◌, length};
 ghost use Rattle.sections.specs.Sections.{begun};
 ghost use Rattle.file.specs.File.{words, out, section_out, loaded, sections_out};

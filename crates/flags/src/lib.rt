@@ -1,4 +1,6 @@
 // The tests of one instruction with the flag that says what they found, and where flags say that instructions begin.
+#![tactic(auto)]
+
 ghost use Rattle.std.specs.Prelude.{false, ◌≡◌, ◌+◌, ◌*◌, ◌<◌, ◌≤◌, length};
 ghost use Rattle.format.specs.Bytes.{byte};
 ghost use Rattle.format.specs.Insn.{operand, opcode as opcode_of, signed16, next};

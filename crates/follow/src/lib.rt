@@ -1,4 +1,6 @@
 // The run of a file along a list of choices: it is loaded and examined, then followed.
+#![tactic(auto)]
+
 ghost use Rattle.std.specs.Prelude.{◌≡◌, length};
 ghost use Rattle.format.specs.Run.{follow};
 ghost use Rattle.rite.specs.Answers.{words, sizes, allowance_of};

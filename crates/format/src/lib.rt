@@ -1,4 +1,5 @@
 // The definitions of the format stand in specs/, the laws that proofs of code cite in proofs/. The code is five numbers.
+#![tactic(auto)]
 
 // How many words a record's row has.
 pub const RECORD_WIDTH: usize = 21;

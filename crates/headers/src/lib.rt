@@ -1,5 +1,7 @@
 // The headers of the file and of LVAR, DBG and END, field by field as bytes, and their reading from the first bytes of a slice; the size that a section
 // states.
+#![tactic(auto)]
+
 ghost use Rattle.std.specs.Prelude.{◌≡◌, ◌+◌, ◌≤◌, length};
 ghost use Rattle.format.specs.Bytes.{two_at, four_at, u32_at, reads};
 ghost use Rattle.format.specs.Headers.{file_header, section_header};

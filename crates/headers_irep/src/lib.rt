@@ -1,4 +1,6 @@
 // The headers of IREP, of its records and of their handlers, field by field as bytes, and their reading from the first bytes of a slice.
+#![tactic(auto)]
+
 ghost use Rattle.std.specs.Prelude.{◌≡◌};
 ghost use Rattle.format.specs.Headers.{irep_header, record_header, handler_header};
 ghost use Rattle.headers_irep.specs.Headers.{section_irep_header_of, irep_record_of, irep_catch_handler_of};

@@ -1,4 +1,6 @@
 // Instructions: fetching one with its operands.
+#![tactic(auto)]
+
 ghost use Rattle.std.specs.Prelude.{◌≡◌, ◌+◌, ◌*◌};
 ghost use Rattle.format.specs.Insn as format;
 ghost use Rattle.opcode_kind.specs.Kinds.{kind_of};

@@ -1,4 +1,6 @@
 // The records of an IREP section, read into four lent tables: records, handlers, pool entries and symbols.
+#![tactic(auto)]
+
 ghost use Rattle.std.specs.Prelude.{◌≡◌, ◌+◌, ◌≤◌, length};
 ghost use Rattle.format.specs.Rows.{record_words};
 ghost use Rattle.format.specs.Irep.{head_at};
@@ -10,7 +12,7 @@ use headers_irep::{IrepRecord, SectionIrepHeader};
 use rows::{Row, Rows, first_row, minus, put_row, read_counted, read_rows, row_count};
 
 // How far a load may go: the bytes and the records that the caller allows, and how many records there can be.
-#[derive(Drop)]
+#[derive(Clone, Copy)]
 pub struct Limits {
     pub bytes: u32,
     pub allowed: u32,
@@ -18,7 +20,7 @@ pub struct Limits {
 }
 
 // How many rows of each table are used.
-#[derive(Drop)]
+#[derive(Clone, Copy)]
 pub struct Used {
     pub records: u32,
     pub handlers: u32,

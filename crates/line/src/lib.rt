@@ -1,15 +1,17 @@
 // The lines that a map drops, and the line of a position.
+#![tactic(auto)]
+
 ghost use Rattle.std.specs.Prelude.{◌≡◌};
 ghost use Rattle.format.specs.Packed.{keeps};
 ghost use Rattle.format.specs.Line.{line_at, map_of};
 ghost use Rattle.line.specs.Answers.{last_of, line_of};
 
 // A position: an instruction's offset in its record.
-#[derive(Drop)]
+#[derive(Clone, Copy)]
 pub struct Pos(pub u32);
 
 // A line of a source file.
-#[derive(Drop)]
+#[derive(Clone, Copy)]
 pub struct Line(pub u32);
 
 // The line of a file's previous entry, if it has one.

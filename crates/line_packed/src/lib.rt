@@ -1,4 +1,6 @@
 // Packed numbers, and the entries of a packed line map.
+#![tactic(auto)]
+
 ghost use Rattle.std.specs.Prelude.{◌≡◌, ◌+◌, ◌*◌, ◌%◌};
 ghost use Rattle.format.specs.Packed.{wrap, packed_from, packed, packed_entry};
 ghost use Rattle.line_packed.specs.Answers.{packed_of, deltas_of, entry_of};

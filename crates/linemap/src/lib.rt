@@ -1,4 +1,6 @@
 // The line map of one debug file, put into a lent table of words.
+#![tactic(auto)]
+
 ghost use Rattle.std.specs.Prelude.{◌≡◌, ◌+◌, ◌-◌, ◌<◌};
 ghost use Rattle.std.proofs.Math.Option.{none};
 ghost use Rattle.format.specs.Rows.{line_row};

@@ -1,4 +1,6 @@
 // Lookups over a file and lent tables of any contents: instructions, handler, pool, symbol, name, debug file, line.
+#![tactic(auto)]
+
 ghost use Rattle.std.specs.Prelude.{◌≡◌};
 ghost use Rattle.format.specs.Lookup as format;
 ghost use Rattle.constant.specs.Answers.{pool_of};

@@ -1,4 +1,6 @@
 // The LVAR section: its strings, then the names of each record that the walk visits, put into lent tables of words.
+#![tactic(auto)]
+
 ghost use Rattle.std.specs.Prelude.{◌≡◌, ◌+◌, ◌*◌, ◌<◌, ◌≤◌, length};
 ghost use Rattle.lvar.specs.Names.{state, out_of, put_names, lv_step, lv_walk, visits_over, in_word};
 ghost use Rattle.lvar.specs.Section.{filled, end_of, lvar_of};

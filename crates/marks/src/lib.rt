@@ -1,4 +1,6 @@
 // What is tested of a file without tables: its size and header, the mark of a section, the size of END.
+#![tactic(auto)]
+
 ghost use Rattle.std.specs.Prelude.{◌≡◌, [], ◌∷◌, ◌+◌, ◌≤◌, length};
 ghost use Rattle.format.specs.Bytes.{four_are, two_are};
 ghost use Rattle.format.specs.Headers.{major04};

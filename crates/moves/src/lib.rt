@@ -1,4 +1,6 @@
 // The choices of a run, and what each does to the top frame.
+#![tactic(auto)]
+
 ghost use Rattle.std.specs.Prelude.{◌≡◌, [], ◌+◌, ◌*◌, ◌<◌, ◌≤◌, length, get_or};
 ghost use Rattle.format.specs.Insn.{target};
 ghost use Rattle.format.specs.Lookup as table;

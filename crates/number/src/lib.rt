@@ -1,4 +1,6 @@
 // Whole numbers of four and eight bytes, high byte first.
+#![tactic(auto)]
+
 ghost use Rattle.std.specs.Prelude.{◌≡◌};
 ghost use Rattle.format.specs.Bytes.{u64_at, signed32, signed64, int32_at, int64_at, reads};
 ghost use Rattle.number.specs.Answers.{int32_of, int64_of};

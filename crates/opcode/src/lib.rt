@@ -1,4 +1,6 @@
 // What is known of each opcode byte: operand kind, what its operands number, where a run goes on, size; and what each prefix says.
+#![tactic(auto)]
+
 ghost use Rattle.std.specs.Prelude.{◌≡◌};
 ghost use Rattle.format.specs.Insn as format;
 ghost use Rattle.opcode.specs.Digits.{role_at, kind_at, flow_at, digits_of};

@@ -1,10 +1,12 @@
 // The kinds of operands, and the size of an instruction of each, in the order in which ops.h first uses them.
+#![tactic(auto)]
+
 ghost use Rattle.std.specs.Prelude.{◌≡◌, suc};
 ghost use Rattle.format.specs.Insn.{width};
 ghost use Rattle.opcode_kind.specs.Kinds.{kind_of};
 
 // Operand kinds: B a byte, S two bytes, W three.
-#[derive(Drop)]
+#[derive(Clone, Copy)]
 pub enum Kind {
     Z,
     BB,

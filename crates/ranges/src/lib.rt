@@ -1,4 +1,6 @@
 // What lookups share: the words of a record's row, a row of a range, bytes of the file.
+#![tactic(auto)]
+
 ghost use Rattle.std.specs.Prelude.{◌≡◌, ◌||◌, ◌+◌, ◌<◌, leb, eqb};
 ghost use Rattle.format.specs.Rows.{text_row};
 ghost use Rattle.format.specs.Lookup as format;

@@ -1,4 +1,6 @@
 // Record rows as structs, in a slice that the caller lends, filled from the words of a record table.
+#![tactic(auto)]
+
 ghost use Rattle.std.specs.Prelude.{◌≡◌, length, get_or};
 ghost use Rattle.records_row.specs.Row.{zero_row};
 ghost use Rattle.records.specs.Records.{rows_of};

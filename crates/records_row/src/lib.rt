@@ -1,4 +1,6 @@
 // A record's row as a struct, and what the words of a record table say of one.
+#![tactic(auto)]
+
 ghost use Rattle.std.specs.Prelude.{◌≡◌};
 ghost use Rattle.records_row.specs.Row.{zero_row, row_at};
 
@@ -7,7 +9,7 @@ use format::RECORD_WIDTH;
 // A record's row, its words in their order. A kind's name is the first of its rows, and n before the name their number.
 // Depth is how many records lie above it in the tree, and parent the record right above, 65535 where there is none.
 #[repr(C)]
-#[derive(Drop)]
+#[derive(Clone, Copy)]
 pub struct Record {
     pub size: u32,
     pub nlocals: u32,

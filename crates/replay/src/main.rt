@@ -1,4 +1,6 @@
 // Replays stored answers of load, examination and follow, the papers' samples first. Answers are compared as the structs of the C boundary.
+#![tactic(auto)]
+
 ghost use Rattle.std.specs.Prelude.{◌≤◌};
 
 use boundary::{BlotheathFollowed, BlotheathLoaded};

@@ -1,4 +1,6 @@
 // Replays stored answers of fetch, line lookup and the seven lookups. Answers are compared as the structs of the C boundary.
+#![tactic(auto)]
+
 ghost use Rattle.std.specs.Prelude.{◌≤◌, length};
 
 use boundary_lookups::{

@@ -1,5 +1,7 @@
 // Loading a file into nine lent tables that are cleared first, and cleared again after the refusal of a section; where none is refused, each
 // record's row is given its depth and parent.
+#![tactic(auto)]
+
 ghost use Rattle.std.specs.Prelude.{◌≡◌, ◌≤◌};
 ghost use Rattle.format.specs.Allowance as allowance;
 ghost use Rattle.format.specs.Load.{load};

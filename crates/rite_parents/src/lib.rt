@@ -1,4 +1,6 @@
 // Each record's depth and parent, by one pass over the record table.
+#![tactic(auto)]
+
 ghost use Rattle.std.specs.Prelude.{◌≡◌, ◌+◌, ◌*◌, ◌≤◌, ◌<◌, length};
 ghost use Rattle.format.specs.Rows.{record_width};
 ghost use Rattle.format.specs.Tree.{nodes};

@@ -1,5 +1,7 @@
 // Readers that fill one lent table of words, row by row. Each takes a part of the file with its start in the file, a place in the part, a
 // table and how many of its rows are used, and answers the next place with the rows now used, or a refusal's number.
+#![tactic(auto)]
+
 ghost use Rattle.std.specs.Prelude.{true, ◌≡◌, ◌+◌, ◌-◌, ◌≤◌, ◌<◌, length, replicate};
 ghost use Rattle.format.specs.Bytes.{no_zero};
 ghost use Rattle.rows.specs.Table.{out, splice, row_count, first_of, put_of, times};
@@ -22,7 +24,7 @@ enum Span {
 }
 
 // What a row is of: a handler, a pool entry, a symbol, a string without a zero, or a name among so many strings.
-#[derive(Drop)]
+#[derive(Clone, Copy)]
 pub enum Row {
     Handler,
     Pool,

@@ -1,4 +1,6 @@
 // The run of an examined pattern along choice bytes, with its frames in a lent table.
+#![tactic(auto)]
+
 ghost use Rattle.std.specs.Prelude.{◌≡◌, ◌+◌, ◌*◌, ◌<◌, ◌≤◌, length, set, replicate};
 ghost use Rattle.format.specs.Line.{line_at};
 ghost use Rattle.format.specs.Lookup as table;

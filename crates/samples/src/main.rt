@@ -1,4 +1,6 @@
 // Runs paper 01's samples of instructions, packed numbers, line maps and fields that are not proved, and prints what is answered.
+#![tactic(auto)]
+
 use binfmt::{Field16, Field32};
 use insn::{FetchAnswer, Fetched};
 use libc::STDOUT_FILENO;

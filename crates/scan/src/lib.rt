@@ -1,4 +1,6 @@
 // Conditions 16, 25, 32, 17 and 18 over the code of a record, with a flag for each byte.
+#![tactic(auto)]
+
 ghost use Rattle.std.specs.Prelude.{true, false, ◌&&◌, ◌≡◌, ◌+◌, ◌≤◌, ◌<◌, ltb, length};
 ghost use Rattle.format.specs.Bytes.{byte};
 ghost use Rattle.format.specs.Insn.{prefix};

@@ -1,4 +1,6 @@
 // One section at a place of a file, into the lent tables that are its own.
+#![tactic(auto)]
+
 ghost use Rattle.std.specs.Prelude.{◌≡◌, ◌≤◌, length};
 ghost use Rattle.sections.specs.Sections.{begun, with_irep, with_lvar, with_dbg, irep_out, irep_out_of, lvar_out, lvar_out_of, dbg_out, dbg_out_of, end_out_of};
 
@@ -7,7 +9,7 @@ use marks::{Size, section_end};
 use rows::row_count;
 
 // How many rows of each table are used, and how many visits the LVAR walk made.
-#[derive(Drop)]
+#[derive(Clone, Copy)]
 pub struct Used {
     pub records: u32,
     pub handlers: u32,

@@ -1,4 +1,6 @@
 // Prints the step list of the file on standard input: a line for each instruction, or that of the refusal.
+#![tactic(auto)]
+
 use format::RECORD_WIDTH;
 use libc::{STDIN_FILENO, STDOUT_FILENO};
 use steps_list::list_steps;

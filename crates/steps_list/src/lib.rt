@@ -1,4 +1,6 @@
 // The step list of a file: it is examined under the desktop's allowance with everything permitted, and what is to be listed is told.
+#![tactic(auto)]
+
 ghost use Rattle.std.specs.Prelude.{◌≡◌};
 ghost use Rattle.rite.specs.Answers.{words, sizes};
 ghost use Rattle.steps_list.specs.Listed.{listed, examined};

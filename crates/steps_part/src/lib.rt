@@ -1,4 +1,6 @@
 // The step list in parts: as many lines as a lent buffer has room for, and what is left to be listed.
+#![tactic(auto)]
+
 ghost use Rattle.std.specs.Prelude.{◌≡◌, ◌≤◌, ◌<◌, min, length, get_or};
 ghost use Rattle.format.specs.Line.{map_of};
 ghost use Rattle.steps_text.specs.Put.{shown};

@@ -1,5 +1,7 @@
 // The text of an instruction in the step list, put into a lent buffer. Each function takes a place of the buffer and answers the one behind what it put;
 // a byte past the buffer's end is left out.
+#![tactic(auto)]
+
 ghost use Rattle.std.specs.Prelude.{[], ◌∷◌, ◌≡◌, ◌+◌, ◌≤◌, ◌<◌, length};
 ghost use Rattle.format.specs.Bytes.{byte};
 ghost use Rattle.format.specs.Insn as format;

@@ -1,5 +1,7 @@
 // Stored answers: numbers of four bytes, high byte first, and how far a replay has come with them.
 // The form stands at the top of host/compare/src/store.rs.
+#![tactic(auto)]
+
 ghost use Rattle.std.specs.Prelude.{◌≡◌, ◌≤◌};
 ghost use Rattle.stored.specs.Stored as stored;
 

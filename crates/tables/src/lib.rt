@@ -1,4 +1,6 @@
 // The nine lent tables, all cleared.
+#![tactic(auto)]
+
 ghost use Rattle.tables.specs.Tables.{words, Zeros};
 
 use rows::clear;

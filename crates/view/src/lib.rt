@@ -1,5 +1,7 @@
 // A record view: the file that a record was loaded from, and where its instruction bytes lie. What reads the file is a function of plain
 // parameters; those of the view hand its fields on.
+#![tactic(auto)]
+
 ghost use Rattle.std.specs.Prelude.{◌≡◌};
 ghost use Rattle.insn.specs.Answers.{answer_of};
 ghost use Rattle.view.specs.View.{part_of, shown, fetch_in};
