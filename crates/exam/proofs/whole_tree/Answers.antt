@@ -1,0 +1,17 @@
+-- `exam::whole_tree` meets its contract.
+-- Assumes nothing.
+use Prim.Native.Nat.{◌-◌}
+use Rattle.exam.proofs.Join.{Laid, laid_start, laid_turn, laid_bad, laid_end}
+use Rattle.exam.proofs.whole_tree.Goals as goal
+
+pub loop-i-init : goal.loop-i-init
+loop-i-init c = laid_start
+
+pub returns-then-p-eq0 : goal.returns-then-p-eq0
+returns-then-p-eq0 c = laid_bad c.loop-i-test.true c.loop-i.invariant c.if-p-eq0.true
+
+pub loop-i-preserved : goal.loop-i-preserved
+loop-i-preserved c = laid_turn c.loop-i-test.true c.loop-i.invariant c.if-p-eq0.false c.word.ensures.0 c.word.ensures.1
+
+pub returns : goal.returns
+returns c = laid_end c.loop-i-test.false c.loop-i.invariant

@@ -1,0 +1,8 @@
+-- `insn::fetch_bss` meets its contract.
+-- Assumes nothing.
+use Rattle.format.specs.Insn.{BSS, operands}
+use Rattle.insn.proofs.Answers.{short, whole}
+use Rattle.insn.proofs.fetch_bss.Goals as goal
+
+pub returns-then-bin-size : goal.returns-then-bin-size
+returns-then-bin-size c = short c.args.bin.now BSS c.size.ensures c.if-bin-size.true

@@ -1,0 +1,11 @@
+-- `insn::fetch_s` meets its contract.
+-- Assumes nothing.
+use Rattle.format.specs.Insn.{S, operands}
+use Rattle.insn.proofs.Answers.{short, whole}
+use Rattle.insn.proofs.fetch_s.Goals as goal
+
+pub returns-then-bin-size : goal.returns-then-bin-size
+returns-then-bin-size c = short c.args.bin.now S c.size.ensures c.if-bin-size.true
+
+pub returns : goal.returns
+returns c = rw c.be16.ensures (whole c.args.bin.now S c.size.ensures c.if-bin-size.false)

@@ -1,0 +1,11 @@
+-- `insn::fetch_z` meets its contract.
+-- Assumes nothing.
+use Rattle.format.specs.Insn.{Z, operands}
+use Rattle.insn.proofs.Answers.{short, whole}
+use Rattle.insn.proofs.fetch_z.Goals as goal
+
+pub returns-then-bin-size : goal.returns-then-bin-size
+returns-then-bin-size c = short c.args.bin.now Z c.size.ensures c.if-bin-size.true
+
+pub returns : goal.returns
+returns c = whole c.args.bin.now Z c.size.ensures c.if-bin-size.false

@@ -1,0 +1,14 @@
+-- `rite_parents::popped` meets its contract.
+-- Assumes nothing.
+use Prim.Native.Nat.{◌≤◌}
+use native.Mathlib.Omega.{arith}
+use mathlib.Core.Path.{◌≡◌, refl}
+use Rattle.rite_parents.specs.Pass.{pop_to}
+use Rattle.rite_parents.proofs.Turns.{pop_stop, pop_go, pop_end}
+use Rattle.rite_parents.proofs.popped.Given as goal
+
+abbrev pub invariant-loop-k : goal.invariant-loop-k
+invariant-loop-k l = (l.k ≤ l.height) × (pop_to l.left l.k ≡ pop_to l.left l.height)
+
+abbrev pub decreases-loop-k : goal.decreases-loop-k
+decreases-loop-k l = l.k
