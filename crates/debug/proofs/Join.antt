@@ -11,7 +11,7 @@ use lib.ListN.{length, take, length-append}
 use borrow.Author.Tests.{ltb-true, ltb-false}
 use Rattle.format.specs.Bytes as bytes
 use Rattle.format.specs.Bytes.{Answer, ok, refused, Step, has, u16_at, u32_at}
-use Rattle.format.specs.Reading.{Read, reading, Part, part, add, and_then, in_turn}
+use Rattle.format.specs.Reading.{Read, Part, part, add, and_then, in_turn}
 use Rattle.format.specs.Rows.{range, TextRow, NameRow, FileRow, LineRow, record_width, record_words, text_words, file_words, line_words, table_of}
 use Rattle.format.specs.Irep.{Rec}
 use Rattle.format.specs.Walk as format
