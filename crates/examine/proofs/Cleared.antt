@@ -2,7 +2,7 @@
 -- Assumes nothing.
 use Prim.Native.Nat.{ℕ, ◌≤◌}
 use native.Mathlib.Omega.{arith}
-use mathlib.Core.Path.{◌≡◌, refl, sym, ap, ◌∙◌}
+use mathlib.Core.Path.{◌≡◌, refl, ap, ◌∙◌}
 use mathlib.Core.Bool.{Bool, true, false}
 use mathlib.Core.List.{List}
 use lib.Dec.{eqb, leb→le}
@@ -14,7 +14,7 @@ use Rattle.format.specs.File.{Content, nothing}
 use Rattle.format.specs.Load as format
 use Rattle.format.specs.Load.{Nine, records_of, tables_of, Counts, fits, Words, words_of, loading, laid, load}
 use Rattle.format.specs.Pattern.{pattern_of}
-use Rattle.format.specs.Exam.{passing, examining, examining_single}
+use Rattle.format.specs.Exam.{passing, examining, examining_single, examine, examine_one}
 use Rattle.format.proofs.Table.{both}
 use Rattle.format.proofs.Places.{records_length}
 use Rattle.layout.proofs.Inside.{loading_reading}
@@ -52,25 +52,26 @@ module _ (x : Asked) (f : List ℕ) (m : Nine) (allow : Allowance) (q : List ℕ
           at true e = rw (l, answering_is x q f c, e)
           at false e = rw (l, answering_is x q f c, e)
 
-  module _ (w : Words) (r : Kept) (e : kept_of r w ≡ examine_kept x f m allow q) where
-    told : (s : Kept) → r ≡ s → cleared (kept_of s w) ≡ laid m (asked_in x f m allow q)
-    told s i = ap (λ y. cleared (kept_of y w)) (sym i) ∙ ap cleared e ∙ cleared_is
+  module _ (w : Words) where
+    told : (s : Kept) → kept_of s w ≡ examine_kept x f m allow q → cleared (kept_of s w) ≡ laid m (asked_in x f m allow q)
+    told s e = ap cleared e ∙ cleared_is
 
     -- nothing is met: the rows stay
-    pub went : (u : Used) → r ≡ kept.Rows u → loaded_of (loaded.Rows u) w ≡ laid m (asked_in x f m allow q)
-    went u i = told (kept.Rows u) i
+    pub went : (u : Used) → kept_of (kept.Rows u) w ≡ examine_kept x f m allow q → loaded_of (loaded.Rows u) w ≡ laid m (asked_in x f m allow q)
+    went u e = told (kept.Rows u) e
 
     -- a condition is met: the tables are cleared
-    pub met_cleared : (n : ℕ) → r ≡ kept.Met n → (w' : Words) → w' ≡ words_of m (tables_of nothing) → loaded_of (loaded.Refused n) w' ≡ laid m (asked_in x f m allow q)
-    met_cleared n i w' z = ap (loaded_of (loaded.Refused n)) z ∙ told (kept.Met n) i
+    pub met_cleared : (n : ℕ) → kept_of (kept.Met n) w ≡ examine_kept x f m allow q → (w' : Words) → w' ≡ words_of m (tables_of nothing)
+        → loaded_of (loaded.Refused n) w' ≡ laid m (asked_in x f m allow q)
+    met_cleared n e w' z = ap (loaded_of (loaded.Refused n)) z ∙ told (kept.Met n) e
 
     -- the load is refused: the tables are zeros already
-    pub stopped : (n : ℕ) → r ≡ kept.Refused n → loaded_of (loaded.Refused n) w ≡ laid m (asked_in x f m allow q)
-    stopped n i = told (kept.Refused n) i
+    pub stopped : (n : ℕ) → kept_of (kept.Refused n) w ≡ examine_kept x f m allow q → loaded_of (loaded.Refused n) w ≡ laid m (asked_in x f m allow q)
+    stopped n e = told (kept.Refused n) e
 
 module _ (f : List ℕ) (m : Nine) (allow : Allowance) (q : List ℕ) where
   -- at most 1,024 records are loaded, so a bound of 1,024 is none
-  pub whole_is : asked_in (asked.Whole 1024) f m allow q ≡ examining f m allow q
+  whole_is : asked_in (asked.Whole 1024) f m allow q ≡ examining f m allow q
   unfolding examining fits
   whole_is = go (loading f m allow) refl
     where
@@ -82,7 +83,15 @@ module _ (f : List ℕ) (m : Nine) (allow : Allowance) (q : List ℕ) where
           rw (l, le-leb (length (records_of c)) 1024 few)
       go (refused n) l = rw l
 
+  pub as_whole : (r : Loaded) (w : Words) → loaded_of r w ≡ laid m (asked_in (asked.Whole 1024) f m allow q) → loaded_of r w ≡ examine f m allow q
+  unfolding examine
+  as_whole r w e = e ∙ ap (laid m) whole_is
+
   -- a single record is what its call examines
-  pub single_is : (i : ℕ) → asked_in (asked.Single i) f m allow q ≡ examining_single f m allow q i
+  single_is : (i : ℕ) → asked_in (asked.Single i) f m allow q ≡ examining_single f m allow q i
   unfolding examining_single
   single_is i = refl
+
+  pub as_single : (i : ℕ) (r : Loaded) (w : Words) → loaded_of r w ≡ laid m (asked_in (asked.Single i) f m allow q) → loaded_of r w ≡ examine_one f m allow q i
+  unfolding examine_one
+  as_single i r w e = e ∙ ap (laid m) (single_is i)

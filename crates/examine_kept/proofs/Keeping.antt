@@ -18,7 +18,6 @@ use Rattle.format.proofs.Answers.{ok_refused}
 use Rattle.layout.proofs.Pattern.{pattern_length}
 use Rattle.exam.specs.View.{pattern_at, Fits}
 use Rattle.sections.specs.declared.Used.{Used}
-use Rattle.file.specs.declared.Loaded.{Loaded}
 use Rattle.file.specs.declared.Loaded.TheVariants as loaded
 use Rattle.rite.specs.Answers.{counts_of, loaded_of}
 use Rattle.examine_asked.specs.declared.Asked.{Asked}
@@ -50,9 +49,9 @@ both : {a a' : Answer (Answer Counts)} {t t' : Words} → a ≡ a' → t ≡ t'
 both p q = rw (p, q)
 
 module _ (f : List ℕ) (m : Nine) (allow : Allowance) (w : Words) (u : Used) where
-  pub given : (r : Loaded) → loaded_of r w ≡ load f m allow → r ≡ loaded.Rows u → Given f m allow w u
+  pub given : loaded_of (loaded.Rows u) w ≡ load f m allow → Given f m allow w u
   unfolding load
-  given r e s = go (loading f m allow) refl (ap (λ x. loaded_of x w) (sym s) ∙ e)
+  given e = go (loading f m allow) refl e
     where
       go : (a : Answer Content) → loading f m allow ≡ a → loaded_of (loaded.Rows u) w ≡ laid m a → Given f m allow w u
       go (ok c) q e = let x : ok (counts_of u) ≡ ok (counts c) = ap (λ l. l.answer) e in record { content = c; loads = q; counted = cc; tables = ap (λ l. l.tables) e }
@@ -94,10 +93,10 @@ module _ (f : List ℕ) (m : Nine) (allow : Allowance) (w : Words) (u : Used) wh
           both a tables_kept
 
 -- a load that is refused
-pub kept_refused : (f : List ℕ) (m : Nine) (allow : Allowance) (x : Asked) (q : List ℕ) (w : Words) (k : ℕ) (r : Loaded) → loaded_of r w ≡ load f m allow
-    → r ≡ loaded.Refused k → kept_of (kept.Refused k) w ≡ examine_kept x f m allow q
+pub kept_refused : (f : List ℕ) (m : Nine) (allow : Allowance) (x : Asked) (q : List ℕ) (w : Words) (k : ℕ) → loaded_of (loaded.Refused k) w ≡ load f m allow
+    → kept_of (kept.Refused k) w ≡ examine_kept x f m allow q
 unfolding load examine_kept
-kept_refused f m allow x q w k r e s = go (loading f m allow) refl (ap (λ y. loaded_of y w) (sym s) ∙ e)
+kept_refused f m allow x q w k e = go (loading f m allow) refl e
   where
     go : (a : Answer Content) → loading f m allow ≡ a → loaded_of (loaded.Refused k) w ≡ laid m a → kept_of (kept.Refused k) w ≡ examine_kept x f m allow q
     go (ok c) l e = let y : refused k ≡ ok (counts c) = ap (λ z. z.answer) e in absurd (ok_refused y)

@@ -14,9 +14,6 @@ use Rattle.moves.specs.declared.Choice.{Choice}
 use Rattle.moves.specs.declared.Choice.TheVariants.{Caught}
 use Rattle.moves.specs.Answers.{choice_of, NextIs}
 
-up : {b : ℕ} (k : ℕ) → k ≤ b → (b ≡ k → ⊥) → k + 1 ≤ b
-up k h z = omega arith
-
 module _ (bs : List ℕ) (i : ℕ) (h : i < length bs) where
   -- of a kind b that has no body
   pub kind_next : (c : Choice) (b : ℕ) → get_or bs i 0 ≡ b → eqb b 3 ≡ false
@@ -24,9 +21,8 @@ module _ (bs : List ℕ) (i : ℕ) (h : i < length bs) where
   kind_next c b e q w =
       record { later = omega arith; inside = omega arith; so = read_kind bs i h b e q ∙ w (format.choices_from format.kind (drop (i + 1) bs)) }
 
-  pub kind_bad : (get_or bs i 0 ≡ 0 → ⊥) → (get_or bs i 0 ≡ 1 → ⊥) → (get_or bs i 0 ≡ 2 → ⊥) → (get_or bs i 0 ≡ 3 → ⊥) → (get_or bs i 0 ≡ 4 → ⊥)
-      → format.choices_from format.kind (drop i bs) ≡ refused 21
-  kind_bad z0 z1 z2 z3 z4 = read_above bs i h (up 4 (up 3 (up 2 (up 1 (up 0 (omega arith) z0) z1) z2) z3) z4)
+  pub kind_bad : 5 ≤ get_or bs i 0 → format.choices_from format.kind (drop i bs) ≡ refused 21
+  kind_bad l = read_above bs i h l
 
   pub caught_bad : length bs - i < 3 → get_or bs i 0 ≡ 3 → format.choices_from format.kind (drop i bs) ≡ refused 21
   caught_bad l e = read_cut bs i h (omega arith) e

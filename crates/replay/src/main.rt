@@ -5,8 +5,9 @@ ghost use Rattle.std.specs.Prelude.{◌≤◌};
 
 use boundary::{BlotheathFollowed, BlotheathLoaded};
 use format::{DESKTOP_BYTES, DESKTOP_RECORDS, OPCODES, RECORD_WIDTH};
-use libc::{STDIN_FILENO, STDOUT_FILENO};
 use rite::Allowance;
+use std::io;
+use std::io::Read;
 use stored::{
     State, ahead, answered, at_file, at_words, begun, ended, five_agree, least, next_group, word,
 };
@@ -28,9 +29,8 @@ fn size(all: &[u8], at: usize, most: usize) -> usize
     least(word(all, at) as usize, most)
 }
 
-fn print_number(n: u32) {
-    io::write_all(STDOUT_FILENO, b" ");
-    io::print_decimal(STDOUT_FILENO, n as u64);
+fn print_number(rt: &impl Print, n: u32) -> io::Result<()> {
+    print!(rt; " {n}")
 }
 
 fn sum_step(sum: u64, w: u32) -> u64 {
@@ -322,50 +322,51 @@ fn follow_item(all: &[u8], s: State) -> State {
     answered(s, agrees, ahead(bytes, 96))
 }
 
-fn print_part(all: &[u8], at: usize, bytes: usize) {
+fn print_part(rt: &impl Print, all: &[u8], at: usize, bytes: usize) -> io::Result<()> {
     let end = least(ahead(at, bytes), all.len());
     let start = least(at, end);
-    io::write_all(STDOUT_FILENO, &all[start..end]);
+    rt.write_all(&all[start..end])
 }
 
 // The end of a group: its name, answers and differences.
-fn group_item(all: &[u8], s: State) -> State {
+fn group_item(rt: &impl Print, all: &[u8], s: State) -> io::Result<State> {
     let bytes = word(all, ahead(s.at, 4)) as usize;
-    print_part(all, ahead(s.at, 8), bytes);
-    io::write_all(STDOUT_FILENO, b":");
-    print_number(s.answers);
-    io::write_all(STDOUT_FILENO, b" answers, differences");
-    print_number(s.differences);
-    io::write_all(STDOUT_FILENO, b"\n");
-    next_group(s, bytes)
+    print_part(rt, all, ahead(s.at, 8), bytes)?;
+    print!(rt; ":")?;
+    print_number(rt, s.answers)?;
+    print!(rt; " answers, differences")?;
+    print_number(rt, s.differences)?;
+    print!(rt; "\n")?;
+    Ok(next_group(s, bytes))
 }
 
-fn item(all: &[u8], s: State) -> State {
+fn item(rt: &impl Print, all: &[u8], s: State) -> io::Result<State> {
     match word(all, s.at) {
-        1 => at_file(all, s),
-        2 => load_item(2, all, s),
-        4 => at_words(all, s),
-        7 => load_item(7, all, s),
-        8 => follow_item(all, s),
-        11 => single_item(all, s),
-        6 => group_item(all, s),
-        _ => ended(s),
+        1 => Ok(at_file(all, s)),
+        2 => Ok(load_item(2, all, s)),
+        4 => Ok(at_words(all, s)),
+        7 => Ok(load_item(7, all, s)),
+        8 => Ok(follow_item(all, s)),
+        11 => Ok(single_item(all, s)),
+        6 => group_item(rt, all, s),
+        _ => Ok(ended(s)),
     }
 }
 
-fn replay(all: &[u8]) {
+fn replay(rt: &impl Print, all: &[u8]) -> io::Result<()> {
     let mut s = begun();
     let mut turns = 1000000u32;
     while turns > 0 {
         turns -= 1;
         if s.going {
-            s = item(all, s);
+            s = item(rt, all, s)?;
         }
     }
+    Ok(())
 }
 
-fn main() {
-    let mut all = [0u8; 589824];
-    let n = io::read_full(STDIN_FILENO, &mut all);
-    replay(&all[..n]);
+fn main(rt: HostRuntime) -> io::Result<()> {
+    let mut all = Vec::new(rt.alloc());
+    rt.reader().take(589824).read_to_end(&mut all)?;
+    replay(&rt, all.as_slice())
 }

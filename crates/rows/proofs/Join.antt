@@ -58,7 +58,8 @@ module _ {R : Type 0} (words : R → List ℕ) (w : ℕ) (wide : (r : R) → len
       let e : length (rs ++ x ∷ []) ≡ length rs + 1 = length-append rs (x ∷ []) in
       rw (e, ← put_table words m rs x (length rs * w) (flat_length words w wide rs), length_table rs (omega arith), wide x, lt-ltb (length rs) (row_count m w) h)
 
-  pub put_full : (rs : List R) (x : R) (next : ℕ) → length rs ≤ row_count m w → row_count m w ≤ length rs → put_of next (length rs) (table_of words m rs) (words x) ≡ out (Refused 14) (table_of words m rs)
+  pub put_full : (rs : List R) (x : R) (next : ℕ) → length rs ≤ row_count m w → row_count m w ≤ length rs
+      → put_of next (length rs) (table_of words m rs) (words x) ≡ out (Refused 14) (table_of words m rs)
   put_full rs x next h g = rw (length_table rs h, wide x, le-ltb _ _ g)
 
   -- a run over one table, which holds the rows rs before it
@@ -115,7 +116,8 @@ pub pool_agrees : (f : List ℕ) (base at u : ℕ) (t : List ℕ) → pool_of f 
 unfolding pool_of pool_value_of pool_entry
 pool_agrees f base at u t = go (has f at 1) (pool_value f base (byte f at) (at + 1))
   where
-    go : (b : Bool) (v : Answer (Step TextRow)) → cond b (pool_put (byte f at) (span_of v) u t) (out (Refused 7) t) ≡ put_step pool_words (cond b (bind v (λ x. ok (of_kind (byte f at) x))) (refused 7)) u t
+    go : (b : Bool) (v : Answer (Step TextRow)) → cond b (pool_put (byte f at) (span_of v) u t) (out (Refused 7) t)
+        ≡ put_step pool_words (cond b (bind v (λ x. ok (of_kind (byte f at) x))) (refused 7)) u t
     go true (ok v) = refl
     go true (refused k) = refl
     go false (ok v) = refl

@@ -8,9 +8,9 @@ use native.Mathlib.Nat.{le-div_iff_mul-le, suc-mul}
 use Rattle.rows.specs.declared.Rows.{Rows}
 use Rattle.rows.specs.declared.Rows.TheVariants.{Next, Refused}
 use mathlib.Core.Bool.{true, false}
-use lib.ListN.{get_or}
-use borrow.Author.Tests.{eq-eqb, ne_eqb}
-use Rattle.format.specs.Bytes.{Answer, ok, refused, Step, step, no_zero}
+use lib.ListN.{length, get_or}
+use borrow.Author.Tests.{eq-eqb, ne_eqb, le-leb}
+use Rattle.format.specs.Bytes.{Answer, ok, refused, Step, step, no_zero, u16_at}
 use Rattle.format.specs.Rows.{TextRow, text_row}
 use Rattle.format.specs.Irep.{pool_text}
 use Rattle.rows.specs.declared.Span.{Span}
@@ -60,6 +60,18 @@ module _ (f : List ℕ) where
   unfolding no_zero
   no_zero_done zero at p = refl
   no_zero_done (suc n) at p = elim (nothing p) [ ]
+
+-- where a pool string's length and its bytes are there, the byte behind them is left to test
+module _ (f : List ℕ) (base at : ℕ) where
+  pub text_ended : 2 ≤ length f - at → u16_at f at + 1 ≤ length f - (at + 2) → get_or f (at + 2 + u16_at f at) 0 ≡ 0
+      → pool_text_of f base at ≡ At (base + (at + 2)) (u16_at f at) (at + 2 + (u16_at f at + 1))
+  unfolding pool_text_of pool_text
+  text_ended h k e = rw (le-leb _ _ h, le-leb _ _ k, eq-eqb _ 0 e)
+
+  pub text_not_ended : 2 ≤ length f - at → u16_at f at + 1 ≤ length f - (at + 2) → (get_or f (at + 2 + u16_at f at) 0 ≡ 0 → ⊥)
+      → pool_text_of f base at ≡ span.Refused 9
+  unfolding pool_text_of pool_text
+  text_not_ended h k e = rw (le-leb _ _ h, le-leb _ _ k, ne_eqb _ 0 e)
 
 -- what was read, by its span
 abbrev answer_of : Span → Answer (Step TextRow)

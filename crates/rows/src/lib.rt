@@ -146,6 +146,7 @@ fn bytes(f: &[u8], base: usize, at: usize, n: usize) -> Span
 }
 
 // A pool string: a length n of two bytes, then n + 1 bytes of which the last is zero, which the span leaves out.
+#[tactic(auto, using(crate::proofs::Laws::text_ended, crate::proofs::Laws::text_not_ended))]
 fn pool_text(f: &[u8], base: usize, at: usize) -> Span
     requires { base + length f.now ≤ 65536 }
     ensures { result ≡ pool_text_of f.now base at }

@@ -45,17 +45,17 @@ pub record Sizes (t : List ℕ) (n d : ℕ) : Type 0 where
   pub depth : d ≤ n
   pub room : 2 * n ≤ length t
 
--- pre: what the code asks of its caller
+-- ready, enough, held: what the code asks of its caller
 module _ {f recs hs ls t : List ℕ} {n d : ℕ}
-    (pre : Ready f recs hs ls n × ((2 * n ≤ length t) × Held (pattern_at f recs hs ls n) t d (frames_of t d))) where
+    (ready : Ready f recs hs ls n) (enough : 2 * n ≤ length t) (held : Held (pattern_at f recs hs ls n) t d (frames_of t d)) where
   abbrev p : Pattern
   p = pattern_at f recs hs ls n
 
   good : GoodFile p
-  good = good_file pre.0.list p pre.0.passes
+  good = good_file ready.list p ready.passes
 
   pub sizes : Sizes t n d
-  sizes = record { few = pre.0.fits.few; depth = omega (arith, pre.1.1.deep, stack_few p good (frames_of t d) (length p) pre.1.1.stack, pattern_length f recs hs ls n); room = pre.1.0 }
+  sizes = record { few = ready.fits.few; depth = omega (arith, held.deep, stack_few p good (frames_of t d) (length p) held.stack, pattern_length f recs hs ls n); room = enough }
 
   -- r, o: the top frame, as the code read it
   module _ (z : d ≡ 0 → ⊥) {r o : ℕ} (er : r ≡ get_or t ((d - 1) * 2) 0) (eo : o ≡ get_or t ((d - 1) * 2 + 1) 0) where
@@ -66,13 +66,13 @@ module _ {f recs hs ls t : List ℕ} {n d : ℕ}
     frames_are = frames_cons t d z ∙ rw (er, eo)
 
     stack_is : Stack p (length p) (frame r o ∷ under)
-    stack_is = subst (λ (fs : List Frame). Stack p (length p) fs) frames_are pre.1.1.stack
+    stack_is = subst (λ (fs : List Frame). Stack p (length p) fs) frames_are held.stack
 
     pub inside : r < n
     inside = omega (arith, stack_is.0, pattern_length f recs hs ls n)
 
     pub row_fits : RowFits f recs hs ls r
-    row_fits = pre.0.fits.each r inside
+    row_fits = ready.fits.each r inside
 
     starts : T (begins (code_at f recs r) o)
     starts = subst (λ (x : Record). T (begins x.code o)) (record_is f recs hs ls n r inside) stack_is.1
@@ -87,7 +87,7 @@ module _ {f recs hs ls t : List ℕ} {n d : ℕ}
         → ok (stands (frame a o) x d) ≡ ok (standing p (frames_of t d))
     unfolding standing
     standing_top ea e =
-        let q : length (frame r o ∷ under) ≡ d = ap length (sym frames_are) ∙ sym pre.1.1.deep in
+        let q : length (frame r o ∷ under) ≡ d = ap length (sym frames_are) ∙ sym held.deep in
         rw (frames_are, record_is f recs hs ls n r inside, q, ea, e)
 
     -- m: the move that the code found
@@ -103,7 +103,7 @@ module _ {f recs hs ls t : List ℕ} {n d : ℕ}
       safe = subst (λ (x : Move). Safe (record_at f recs hs ls r) x) (sym moves) (move_safe (record_at f recs hs ls r) good_record o starts ch)
 
       stack_then : Stack p (length p) (one_step p (frames_of t d) ch)
-      stack_then = keeps_step p good (frames_of t d) pre.1.1.stack ch
+      stack_then = keeps_step p good (frames_of t d) held.stack ch
 
       few_then : length (applied p (frame r o) under m) ≤ n
       few_then =
@@ -115,10 +115,10 @@ module _ {f recs hs ls t : List ℕ} {n d : ℕ}
       held_by u k a b c = record { table = rw (step_is, a) b; deep = rw step_is c; stack = stack_then }
 
     under_depth : length under ≡ d - 1
-    under_depth = omega (arith, pre.1.1.deep, ap length frames_are)
+    under_depth = omega (arith, held.deep, ap length frames_are)
 
     table_is : t ≡ frame_table (length t) (frame r o ∷ under)
-    table_is = pre.1.1.table ∙ ap (frame_table (length t)) frames_are
+    table_is = held.table ∙ ap (frame_table (length t)) frames_are
 
     roomy : 2 * length under + 2 ≤ length t
     roomy = omega (arith, under_depth, sizes)
@@ -128,7 +128,7 @@ module _ {f recs hs ls t : List ℕ} {n d : ℕ}
 
     small : (x : ℕ) → T (begins (code_at f recs r) x) → x < 65536
     small x b =
-        omega (arith, reach_inside (code_at f recs r) 0 x b, length-take (record_word recs r 5) (drop (record_word recs r 6) f), length-drop (record_word recs r 6) f, pre.0.fits.small)
+        omega (arith, reach_inside (code_at f recs r) 0 x b, length-take (record_word recs r 5) (drop (record_word recs r 6) f), length-drop (record_word recs r 6) f, ready.fits.small)
 
     -- u: the table after the code put its frames
     pub held_gone : {u : List ℕ} (ch : Choice) → gone ≡ move (part_at f recs hs r) o ch → u ≡ set (set t ((d - 1) * 2) 0) ((d - 1) * 2 + 1) 0

@@ -8,7 +8,7 @@ ghost use Rattle.stored.specs.Stored as stored;
 use binfmt::Field32;
 
 // How far a replay has come: the place of the next item, the bytes and the words that stand last, and the answers of this group.
-#[derive(Drop)]
+#[derive(Clone, Copy)]
 pub struct State {
     pub going: bool,
     pub at: usize,

@@ -1,10 +1,8 @@
 -- `constant::float64` meets its contract.
 -- Assumes nothing.
 use borrow.Author.Tests.{ne_eqb}
-use mathlib.Core.Path.{sym, ap, ◌∙◌}
 use Rattle.format.specs.Bytes.{float64_at}
 use Rattle.format.specs.Lookup.{float}
-use Rattle.number_float.specs.Answers.{float64_of}
 use Rattle.constant.proofs.Laws.{number_read}
 use borrow.Author.Rules.{rules}
 use Rattle.constant.proofs.float64.Goals as goal
@@ -15,9 +13,9 @@ returns-then-len-ne8 c = rw (ne_eqb c.args.len 8 c.if-len-ne8.true)
 pub returns-in-Refused : goal.returns-in-Refused
 returns-in-Refused c =
     let a = c.args in
-    number_read float a.f.now a.place a.len 8 (float64_at a.f.now a.place) (search rules) c.if-len-ne8.false _ (ap float64_of (sym c.e-1.given.1) ∙ c.f64_at.ensures)
+    number_read float a.f.now a.place a.len 8 (float64_at a.f.now a.place) (search rules) c.if-len-ne8.false _ c.in-Refused.ensures
 
 pub returns-in-Value : goal.returns-in-Value
 returns-in-Value c =
     let a = c.args in
-    number_read float a.f.now a.place a.len 8 (float64_at a.f.now a.place) (search rules) c.if-len-ne8.false _ (ap float64_of (sym c.x-1.given.1) ∙ c.f64_at.ensures)
+    number_read float a.f.now a.place a.len 8 (float64_at a.f.now a.place) (search rules) c.if-len-ne8.false _ c.in-Value.ensures

@@ -1,13 +1,12 @@
 -- `constant::int64` meets its contract.
 -- Assumes nothing.
 use borrow.Author.Tests.{ne_eqb}
-use mathlib.Core.Path.{sym, ap, ◌∙◌}
+use mathlib.Core.Path.{ap, ◌∙◌}
 use Rattle.format.specs.Bytes.{ok, int64_at}
 use Rattle.format.specs.Lookup.{int}
 use mir.Syntax.{w64}
 use mir.Val.{SFits}
 use mir.ValLaws.{to_z-of_z}
-use Rattle.number.specs.Answers.{int64_of}
 use Rattle.constant.proofs.Laws.{number_read}
 use borrow.Author.Rules.{rules}
 use Rattle.constant.proofs.int64.Goals as goal
@@ -18,12 +17,12 @@ returns-then-len-ne8 c = rw (ne_eqb c.args.len 8 c.if-len-ne8.true)
 pub returns-in-Refused : goal.returns-in-Refused
 returns-in-Refused c =
     let a = c.args in
-    number_read int a.f.now a.place a.len 8 (int64_at a.f.now a.place) (search rules) c.if-len-ne8.false _ (ap int64_of (sym c.e-1.given.1) ∙ c.i64_at.ensures)
+    number_read int a.f.now a.place a.len 8 (int64_at a.f.now a.place) (search rules) c.if-len-ne8.false _ c.in-Refused.ensures
 
 pub returns-in-Value : goal.returns-in-Value
 returns-in-Value c =
     let a = c.args in
-    let n = c.n-1.given.0.0 in
+    let n = c.in-Value.n in
     let fits : SFits w64 n = search rules in
     ap (λ z. ok (int z)) (to_z-of_z w64 n fits)
-    ∙ number_read int a.f.now a.place a.len 8 (int64_at a.f.now a.place) (search rules) c.if-len-ne8.false _ (ap int64_of (sym c.n-1.given.1) ∙ c.i64_at.ensures)
+    ∙ number_read int a.f.now a.place a.len 8 (int64_at a.f.now a.place) (search rules) c.if-len-ne8.false _ c.in-Value.ensures

@@ -1,7 +1,5 @@
 -- `entries_debug::line_in` meets its contract.
 -- Assumes nothing.
-use mathlib.Core.Path.{sym, ap, ◌∙◌}
-use Rattle.line.specs.Answers.{line_of}
 use Rattle.entries_debug.proofs.Laws.{line_none, line_past, line_part}
 use native.Mathlib.Omega.{arith}
 use Rattle.entries_debug.proofs.line_in.Goals as goal
@@ -17,9 +15,9 @@ returns-then-lines-to c =
 pub returns-in-Nothing : goal.returns-in-Nothing
 returns-in-Nothing c =
     let a = c.args in
-    line_part a.lines.now a.first a.number a.offset.0 (omega (arith, c.if-lines-to.false)) _ c.if-number-eq0.false (ap line_of (sym c.enum_told-1.given.1) ∙ c.line_at.ensures)
+    line_part a.lines.now a.first a.number a.offset.0 (omega (arith, c.if-lines-to.false)) _ c.if-number-eq0.false c.in-Nothing.ensures
 
 pub returns-in-At : goal.returns-in-At
 returns-in-At c =
     let a = c.args in
-    line_part a.lines.now a.first a.number a.offset.0 (omega (arith, c.if-lines-to.false)) _ c.if-number-eq0.false (ap line_of (sym c.found-1.given.1) ∙ c.line_at.ensures)
+    line_part a.lines.now a.first a.number a.offset.0 (omega (arith, c.if-lines-to.false)) _ c.if-number-eq0.false c.in-At.ensures

@@ -1,17 +1,16 @@
 -- `lookup::line` meets its contract.
 -- Assumes nothing.
-use mathlib.Core.Path.{sym, ap, ◌∙◌}
+use mathlib.Core.Path.{◌∙◌}
 use Rattle.format.specs.Lookup.{line}
-use Rattle.ranges.specs.Leaves.{words_of}
 use Rattle.lookup.proofs.Laws.{record_missing, line_is}
 use Rattle.lookup.proofs.line.Goals as goal
 
 pub returns-in-Missing : goal.returns-in-Missing
 unfolding line
 returns-in-Missing c =
-    rw (record_missing c.args.records.now c.args.rec _ (ap words_of (sym c.enum_told-1.given.1) ∙ c.record_words.ensures))
+    rw (record_missing c.args.records.now c.args.rec _ c.in-Missing.ensures)
 
 pub returns-in-At : goal.returns-in-At
 returns-in-At c =
     let a = c.args in
-    c.line_in.ensures ∙ line_is a.records.now a.lines.now a.rec a.offset.0 _ (ap words_of (sym c.first-1.given.1) ∙ c.record_words.ensures)
+    c.line_in.ensures ∙ line_is a.records.now a.lines.now a.rec a.offset.0 _ c.in-At.ensures

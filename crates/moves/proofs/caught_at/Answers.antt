@@ -4,7 +4,7 @@ use Rattle.moves.proofs.Choices.{caught_bad, caught_next}
 use Rattle.moves.proofs.caught_at.Goals as goal
 
 pub returns-then-choices-i-lt3 : goal.returns-then-choices-i-lt3
-returns-then-choices-i-lt3 c = c.args in caught_bad a.choices.now a.i c.requires.0 c.if-choices-i-lt3.true c.requires.1
+returns-then-choices-i-lt3 c = let a = c.args in caught_bad a.choices.now a.i c.requires.0 c.if-choices-i-lt3.true c.requires.1
 
 pub returns : goal.returns
 returns c =

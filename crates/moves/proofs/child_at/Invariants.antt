@@ -1,8 +1,7 @@
 -- `moves::child_at` meets its contract.
 -- Assumes nothing.
-use native.Mathlib.Omega.{arith}
 use Prim.Native.Nat.{◌-◌}
-use Rattle.moves.proofs.Children.{Seeking, seeking_start, seeking_turn, seeking_none, seeking_end}
+use Rattle.moves.proofs.Children.{Seeking}
 use Rattle.moves.proofs.child_at.Given as goal
 
 abbrev pub invariant-loop-i : goal.invariant-loop-i

@@ -5,7 +5,7 @@ use Rattle.moves.proofs.Moves.{second_child, third_child, no_child}
 use Rattle.moves.proofs.child_operand.Goals as goal
 
 pub returns-then-is_child : goal.returns-then-is_child
-returns-then-is_child c = c in second_child (row_of second.before.args.op) second.is_child.ensures c.if-is_child.true
+returns-then-is_child c = second_child (row_of c.args.op) c.is_child.ensures c.if-is_child.true
 
 pub returns-then-is_child-2 : goal.returns-then-is_child-2
 returns-then-is_child-2 c =

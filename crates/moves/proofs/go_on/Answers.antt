@@ -14,7 +14,7 @@ next_offset-requires c = entire c.requires
 pub jump_target-requires : goal.jump_target-requires
 jump_target-requires c =
     let a = c.args in
-    jumps_here a.code.now a.o c.op_row-op.result c.opcode_at.ensures c.op_row-op.ensures c.enum_told-in-Jumps-1.given.1 tt c.requires
+    jumps_here a.code.now a.o c.op_row-op.result c.opcode_at.ensures c.op_row-op.ensures c.in-Jumps.is tt c.requires
 
 pub next_offset-requires-in-May : goal.next_offset-requires-in-May
 next_offset-requires-in-May c = entire c.requires
@@ -22,19 +22,19 @@ next_offset-requires-in-May c = entire c.requires
 pub returns-in-On : goal.returns-in-On
 returns-in-On c =
     let a = c.args in
-    ap to c.next_offset.ensures ∙ on_is a.code.now a.o c.op_row-op.result c.opcode_at.ensures c.op_row-op.ensures c.enum_told-1.given.1
+    ap to c.next_offset.ensures ∙ on_is a.code.now a.o c.op_row-op.result c.opcode_at.ensures c.op_row-op.ensures c.in-On.is
 
 pub returns-in-Ends : goal.returns-in-Ends
 returns-in-Ends c =
     let a = c.args in
-    on_is a.code.now a.o c.op_row-op.result c.opcode_at.ensures c.op_row-op.ensures c.enum_told-in-Ends-1.given.1
+    on_is a.code.now a.o c.op_row-op.result c.opcode_at.ensures c.op_row-op.ensures c.in-Ends.is
 
 pub returns-in-Jumps : goal.returns-in-Jumps
 returns-in-Jumps c =
     let a = c.args in
-    ap to c.jump_target.ensures ∙ on_is a.code.now a.o c.op_row-op.result c.opcode_at.ensures c.op_row-op.ensures c.enum_told-in-Jumps-1.given.1
+    ap to c.jump_target.ensures ∙ on_is a.code.now a.o c.op_row-op.result c.opcode_at.ensures c.op_row-op.ensures c.in-Jumps.is
 
 pub returns-in-May : goal.returns-in-May
 returns-in-May c =
     let a = c.args in
-    ap to c.next_offset-in-May.ensures ∙ on_is a.code.now a.o c.op_row-op.result c.opcode_at.ensures c.op_row-op.ensures c.enum_told-in-May-1.given.1
+    ap to c.next_offset-in-May.ensures ∙ on_is a.code.now a.o c.op_row-op.result c.opcode_at.ensures c.op_row-op.ensures c.in-May.is

@@ -6,19 +6,19 @@ use Rattle.moves.proofs.move_at.Goals as goal
 
 pub returns-in-GoOn : goal.returns-in-GoOn
 returns-in-GoOn c =
-    let a = c.args in by_on a.code.now (targets a.handlers.now a.first a.number) a.o c.enum_told-1.given.1 c.go_on.ensures
+    let a = c.args in by_on a.code.now (targets a.handlers.now a.first a.number) a.o c.in-GoOn.is c.go_on.ensures
 
 pub returns-in-Jump : goal.returns-in-Jump
 returns-in-Jump c =
-    let a = c.args in by_jump a.code.now (targets a.handlers.now a.first a.number) a.o c.enum_told-in-Jump-1.given.1 c.jump.ensures
+    let a = c.args in by_jump a.code.now (targets a.handlers.now a.first a.number) a.o c.in-Jump.is c.jump.ensures
 
 pub returns-in-Enter : goal.returns-in-Enter
 returns-in-Enter c =
-    let a = c.args in by_enter a.code.now (targets a.handlers.now a.first a.number) a.o c.enum_told-in-Enter-1.given.1 c.enter.ensures
+    let a = c.args in by_enter a.code.now (targets a.handlers.now a.first a.number) a.o c.in-Enter.is c.enter.ensures
 
 pub returns-in-Caught : goal.returns-in-Caught
 returns-in-Caught c =
-    let a = c.args in by_caught a.code.now (targets a.handlers.now a.first a.number) a.o c.choice-1.given.1 c.caught.ensures
+    let a = c.args in by_caught a.code.now (targets a.handlers.now a.first a.number) a.o c.in-Caught.is c.caught.ensures
 
 pub returns-in-Leave : goal.returns-in-Leave
-returns-in-Leave c = c.args in by_leave a.code.now (targets a.handlers.now a.first a.number) a.o c.enum_told-in-Leave-1.given.1
+returns-in-Leave c = let a = c.args in by_leave a.code.now (targets a.handlers.now a.first a.number) a.o c.in-Leave.is

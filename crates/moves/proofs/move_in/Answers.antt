@@ -11,11 +11,11 @@ use Rattle.moves.proofs.move_in.Goals as goal
 
 pub move_at-requires : goal.move_at-requires
 move_at-requires c =
-    let a = c.args in (
-      subst (λ (x : List ℕ). Stands x a.o) (sym (code_is a.file.now a.records.now a.r _ _ c.word-place.ensures.0 c.word.ensures.0))
-          c.requires.stands,
-      omega (arith, c.requires.r_in_bounds_2, c.word-first.ensures.0, c.word-number.ensures.0),
-    )
+    let a = c.args in
+    record {
+      stands = subst (λ (x : List ℕ). Stands x a.o) (sym (code_is a.file.now a.records.now a.r _ _ c.word-place.ensures.0 c.word.ensures.0)) c.requires.stands;
+      number_in_bounds = omega (arith, c.requires.r_in_bounds_2, c.word-first.ensures.0, c.word-number.ensures.0);
+    }
 
 pub returns : goal.returns
 returns c =

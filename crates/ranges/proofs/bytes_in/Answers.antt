@@ -9,8 +9,8 @@ use Rattle.ranges.proofs.bytes_in.Goals as goal
 
 pub returns-then-f-place : goal.returns-then-f-place
 unfolding bytes_in
-returns-then-f-place c = c.args in rw (lt-leb (a.place + a.len) (length a.f.now) (omega (arith, c.if-f-place.taken)))
+returns-then-f-place c = let a = c.args in rw (lt-leb (a.place + a.len) (length a.f.now) (omega (arith, c.if-f-place.true)))
 
 pub returns : goal.returns
 unfolding bytes_in
-returns c = c.args in rw (le-leb (a.place + a.len) (length a.f.now) (omega (arith, c.if-f-place.left)))
+returns c = let a = c.args in rw (le-leb (a.place + a.len) (length a.f.now) (omega (arith, c.if-f-place.false)))

@@ -4,7 +4,7 @@ use borrow.Author.Tests.{eq-eqb, ne_eqb}
 use Rattle.ranges.proofs.rows_in.Goals as goal
 
 pub returns-then-number-eq0 : goal.returns-then-number-eq0
-returns-then-number-eq0 c = rw (eq-eqb c.args.number 0 c.if-number-eq0.taken)
+returns-then-number-eq0 c = rw (eq-eqb c.args.number 0 c.if-number-eq0.true)
 
 pub returns : goal.returns
-returns c = rw (ne_eqb c.args.number 0 c.if-number-eq0.left)
+returns c = rw (ne_eqb c.args.number 0 c.if-number-eq0.false)

@@ -3,7 +3,6 @@
 use native.Mathlib.Omega.{arith}
 use mathlib.Core.Path.{sym, ◌∙◌}
 use lib.ListN.{length-set}
-use borrow.Author.Tests.{not-true, not-false}
 use Rattle.rite_parents.proofs.Turns.{step_unreached, step_reached}
 use Rattle.rite_parents.proofs.link_record.Goals as goal
 
@@ -14,8 +13,8 @@ bounds-records-row-3 c =
 pub returns-then-not-reached : goal.returns-then-not-reached
 returns-then-not-reached c =
     let a = c.args in
-    let not_there = sym c.reached.ensures ∙ not-true c.reached.result c.if-not-reached.true in (
-      step_unreached a.i a.records.now a.recs.now a.left.now a.height c.popped-top.result c.next_parent-parent.result c.next_parent-parent.new.1.0
+    let not_there = sym c.reached.ensures ∙ c.if-not-reached.true in (
+      step_unreached a.i a.records.now a.recs.now a.left.now a.height c.popped-top.result c.next_parent-parent.result c.next_parent-parent.new.left
           c.popped-top.ensures.0 c.next_parent-parent.ensures not_there (omega arith),
       omega arith,
     )
@@ -23,8 +22,8 @@ returns-then-not-reached c =
 pub returns : goal.returns
 returns c =
     let a = c.args in
-    let there = sym c.reached.ensures ∙ not-false c.reached.result c.if-not-reached.false in (
-      step_reached a.i a.records.now a.recs.now a.left.now a.height c.popped-top.result c.next_parent-parent.result c.next_parent-parent.new.1.0
+    let there = sym c.reached.ensures ∙ c.if-not-reached.false in (
+      step_reached a.i a.records.now a.recs.now a.left.now a.height c.popped-top.result c.next_parent-parent.result c.next_parent-parent.new.left
           c.popped-top.ensures.0 c.next_parent-parent.ensures there (omega arith) (omega arith),
       omega (arith, c.popped-top.ensures.1, c.requires.4),
     )

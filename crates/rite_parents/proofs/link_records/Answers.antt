@@ -1,9 +1,8 @@
 -- `rite_parents::link_records` meets its contract.
 -- Assumes nothing.
-use Prim.Native.Nat.{ℕ, ◌-◌, ◌≤◌}
+use Prim.Native.Nat.{ℕ, ◌-◌}
 use native.Mathlib.Omega.{arith}
 use mathlib.Core.Path.{◌≡◌, refl, ap, ◌∙◌}
-use lib.ListN.{length}
 use Rattle.rite_parents.specs.Pass.{State, state, steps}
 use Rattle.rite_parents.proofs.Turns.{rows_go, rows_end}
 use Rattle.rite_parents.proofs.link_records.Goals as goal
@@ -26,10 +25,10 @@ loop-i-preserved c =
     let b = c.loop-i in
     let a = c.args in
     let s₀ = state a.records.now a.recs.now a.left.now 0 in
-    let s₁ = state r.new.0 r.new.1.0 r.new.1.1.0 r.result in (
-      r.auto.0 ∙ b.invariant.0,
-      r.auto.1.0 ∙ b.invariant.1,
-      r.auto.1.1.0 ∙ b.invariant.2,
+    let s₁ = state r.new.records r.new.recs r.new.left r.result in (
+      r.auto.records ∙ b.invariant.0,
+      r.auto.recs ∙ b.invariant.1,
+      r.auto.left ∙ b.invariant.2,
       r.ensures.1,
       rows_go a.n b.i (state b.records b.recs b.left b.height) s₁ (steps a.n 0 s₀) c.loop-i-test.true r.ensures.0 b.invariant.4,
     )

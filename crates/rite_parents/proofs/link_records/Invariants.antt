@@ -1,11 +1,9 @@
 -- `rite_parents::link_records` meets its contract.
 -- Assumes nothing.
-use Prim.Native.Nat.{ℕ, ◌-◌, ◌≤◌}
-use native.Mathlib.Omega.{arith}
-use mathlib.Core.Path.{◌≡◌, refl, ap, ◌∙◌}
+use Prim.Native.Nat.{◌-◌, ◌≤◌}
+use mathlib.Core.Path.{◌≡◌}
 use lib.ListN.{length}
-use Rattle.rite_parents.specs.Pass.{State, state, steps}
-use Rattle.rite_parents.proofs.Turns.{rows_go, rows_end}
+use Rattle.rite_parents.specs.Pass.{state, steps}
 use Rattle.rite_parents.proofs.link_records.Given as goal
 
 -- the rows left make of what there is what all rows make of what there was

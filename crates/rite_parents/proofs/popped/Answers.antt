@@ -1,9 +1,7 @@
 -- `rite_parents::popped` meets its contract.
 -- Assumes nothing.
-use Prim.Native.Nat.{◌≤◌}
 use native.Mathlib.Omega.{arith}
-use mathlib.Core.Path.{◌≡◌, refl}
-use Rattle.rite_parents.specs.Pass.{pop_to}
+use mathlib.Core.Path.{refl}
 use Rattle.rite_parents.proofs.Turns.{pop_stop, pop_go, pop_end}
 use Rattle.rite_parents.proofs.popped.Goals as goal
 

@@ -1,10 +1,8 @@
 -- `rite_parents::popped` meets its contract.
 -- Assumes nothing.
 use Prim.Native.Nat.{◌≤◌}
-use native.Mathlib.Omega.{arith}
-use mathlib.Core.Path.{◌≡◌, refl}
+use mathlib.Core.Path.{◌≡◌}
 use Rattle.rite_parents.specs.Pass.{pop_to}
-use Rattle.rite_parents.proofs.Turns.{pop_stop, pop_go, pop_end}
 use Rattle.rite_parents.proofs.popped.Given as goal
 
 abbrev pub invariant-loop-k : goal.invariant-loop-k

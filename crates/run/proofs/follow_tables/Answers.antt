@@ -1,41 +1,37 @@
 -- `run::follow_tables` meets its contract.
 -- Assumes nothing.
 use native.Mathlib.Omega.{arith}
-use mathlib.Core.Path.{subst}
+use mathlib.Core.Path.{◌≡◌, sym}
 use lib.ListN.{length}
 use Rattle.exam.specs.View.{pattern_at}
-use Rattle.run.specs.declared.Walked.{Walked}
-use Rattle.run.specs.Follow.{Walk}
 use Rattle.run.proofs.Walks.{out_bad, out_ran, same_zeros}
 use Rattle.run.proofs.follow_tables.Goals as goal
 
 pub walk-requires : goal.walk-requires
 walk-requires c =
-    record { ready = c.requires.ready; n_in_bounds = omega (arith, c.requires.n_in_bounds, c.clear.auto.0); frames_value = same_zeros (length c.args.frames.now) (length c.clear.new.0) c.clear.ensures (omega (arith, c.clear.auto.0)) }
+    let l : length c.clear.new.t ≡ length c.args.frames.now = omega (arith, c.clear.auto.t) in
+    record {
+      ready = c.requires.ready;
+      n_in_bounds = omega (arith, c.requires.n_in_bounds);
+      frames_value = same_zeros (length c.args.frames.now) (length c.clear.new.t) c.clear.ensures (sym l);
+    }
 
 pub standing_of-requires : goal.standing_of-requires
 standing_of-requires c =
-    let a = c.args in (
-      c.requires.ready,
-      (
-        omega (arith, c.requires.n_in_bounds, c.clear.auto.0, c.walk.auto.1.1.1.1.1.1.0),
-        (subst (λ (w : Walked). Walk (pattern_at a.file.now a.records.now a.handlers.now a.lines.now a.n) a.choices.now
-            c.walk.new.1.1.1.1.1.1.0 w) c.d-1.given.1 c.walk.ensures).held,
-      ),
-    )
+    record {
+      ready = c.requires.ready;
+      n_in_bounds = omega (arith, c.requires.n_in_bounds, c.clear.auto.t, c.walk.auto.frames);
+      held = c.in-Depth.ensures.held;
+    }
 
 pub returns-in-Bad : goal.returns-in-Bad
 returns-in-Bad c =
-    let t = c.walk.new.1.1.1.1.1.1.0 in
     let a = c.args in
-    let p = pattern_at a.file.now a.records.now a.handlers.now a.lines.now a.n in
-    out_bad p a.choices.now (length a.frames.now) (length t) (subst (λ (w : Walked). Walk p a.choices.now t w) c.enum_told-1.given.1 c.walk.ensures)
-    c.clear-in-Bad.ensures (omega (arith, c.clear.auto.0, c.walk.auto.1.1.1.1.1.1.0))
+    out_bad (pattern_at a.file.now a.records.now a.handlers.now a.lines.now a.n) a.choices.now (length a.frames.now) (length c.walk.new.frames)
+    c.in-Bad.ensures c.clear-in-Bad.ensures (omega (arith, c.clear.auto.t, c.walk.auto.frames))
 
 pub returns-in-Depth : goal.returns-in-Depth
 returns-in-Depth c =
     let a = c.args in
-    let p = pattern_at a.file.now a.records.now a.handlers.now a.lines.now a.n in
-    out_ran p a.choices.now (length a.frames.now)
-    (subst (λ (w : Walked). Walk p a.choices.now c.walk.new.1.1.1.1.1.1.0 w) c.d-1.given.1 c.walk.ensures)
-    (omega (arith, c.clear.auto.0, c.walk.auto.1.1.1.1.1.1.0)) c.standing_of.ensures
+    out_ran (pattern_at a.file.now a.records.now a.handlers.now a.lines.now a.n) a.choices.now (length a.frames.now) c.in-Depth.ensures
+    (omega (arith, c.clear.auto.t, c.walk.auto.frames)) c.standing_of.ensures

@@ -2,8 +2,7 @@
 -- Assumes nothing.
 use native.Mathlib.Omega.{arith}
 use Prim.Native.Nat.{◌+◌, ◌*◌}
-use mathlib.Core.Path.{sym, ap, ◌∙◌}
-use Rattle.moves.specs.Answers.{choice_of, move_of}
+use Rattle.moves.specs.Answers.{choice_of}
 use Rattle.run.proofs.Steps.{sizes, held_none, inside, row_fits, top_stands, held_gone, to_small, held_to, into_small, into_room, held_into}
 use Rattle.format.specs.Rows.{record_width}
 use Rattle.run.proofs.one_step.Goals as goal
@@ -13,84 +12,86 @@ returns-then-d-eq0 c =
     let a = c.args in held_none _ a.frames.now a.d (choice_of a.choice) c.if-d-eq0.true c.requires.held
 
 pub overflow_mul-top : goal.overflow_mul-top
-overflow_mul-top c = omega (arith, sizes c.requires)
+overflow_mul-top c = omega (arith, sizes c.requires.ready c.requires.n_in_bounds c.requires.held)
 
 pub word-r-requires : goal.word-r-requires
-word-r-requires c = omega (arith, sizes c.requires)
+word-r-requires c = omega (arith, sizes c.requires.ready c.requires.n_in_bounds c.requires.held)
 
 pub overflow_add-top : goal.overflow_add-top
-overflow_add-top c = omega (arith, sizes c.requires)
+overflow_add-top c = omega (arith, sizes c.requires.ready c.requires.n_in_bounds c.requires.held)
 
 pub word-o-requires : goal.word-o-requires
-word-o-requires c = omega (arith, sizes c.requires)
+word-o-requires c = omega (arith, sizes c.requires.ready c.requires.n_in_bounds c.requires.held)
 
 pub move_in-requires : goal.move_in-requires
 move_in-requires c =
-    let q = row_fits c.requires c.if-d-eq0.false c.word-r.ensures.0 c.word-o.ensures.0 in
-    record { record_width_in_bounds = q.inside; r_in_bounds = q.bytes; r_in_bounds_2 = q.handling; stands = top_stands c.requires c.if-d-eq0.false c.word-r.ensures.0 c.word-o.ensures.0 }
+    let q = c.requires in
+    let w = row_fits q.ready q.n_in_bounds q.held c.if-d-eq0.false c.word-r.ensures.0 c.word-o.ensures.0 in
+    record {
+      record_width_in_bounds = w.inside;
+      r_in_bounds = w.bytes;
+      r_in_bounds_2 = w.handling;
+      stands = top_stands q.ready q.n_in_bounds q.held c.if-d-eq0.false c.word-r.ensures.0 c.word-o.ensures.0;
+    }
 
 pub put_frame-requires : goal.put_frame-requires
-put_frame-requires c = omega (arith, sizes c.requires)
+put_frame-requires c = omega (arith, sizes c.requires.ready c.requires.n_in_bounds c.requires.held)
 
 pub put_frame-requires-in-To : goal.put_frame-requires-in-To
 put_frame-requires-in-To c =
     omega (
       arith,
-      sizes c.requires,
+      sizes c.requires.ready c.requires.n_in_bounds c.requires.held,
       c.word-r.ensures.1,
-      to_small c.requires c.if-d-eq0.false c.word-r.ensures.0 c.word-o.ensures.0
-          (choice_of c.args.choice) _ (ap move_of (sym c.offset-1.given.1) ∙ c.Move-in.ensures),
+      to_small c.requires.ready c.requires.n_in_bounds c.requires.held c.if-d-eq0.false c.word-r.ensures.0 c.word-o.ensures.0
+          (choice_of c.args.choice) _ c.in-To.ensures,
     )
 
 pub child_at-entered-requires : goal.child_at-entered-requires
 child_at-entered-requires c =
-    let q = c.requires in (
-      q.0.fits.few,
-      q.0.fits.held,
-      inside q c.if-d-eq0.false c.word-r.ensures.0 c.word-o.ensures.0,
-      omega (
-        arith,
-        (into_small q c.if-d-eq0.false c.word-r.ensures.0 c.word-o.ensures.0 (choice_of c.args.choice) _ _
-            (ap move_of (sym c.child-1.given.1) ∙ c.Move-in.ensures)).1,
-        c.shared_slice_known-2-1.given (c.word-r.result * record_width + 3),
-      ),
+    let q = c.requires in
+    let k = into_small q.ready q.n_in_bounds q.held c.if-d-eq0.false c.word-r.ensures.0 c.word-o.ensures.0 (choice_of c.args.choice) _ _ c.in-Into.ensures in (
+      q.ready.fits.few,
+      q.ready.fits.held,
+      inside q.ready q.n_in_bounds q.held c.if-d-eq0.false c.word-r.ensures.0 c.word-o.ensures.0,
+      omega (arith, k.1, c.type_inv.records (c.word-r.result * record_width + 3)),
     )
 
 pub put_frame-requires-in-Into : goal.put_frame-requires-in-Into
 put_frame-requires-in-Into c =
     omega (
       arith,
-      sizes c.requires,
+      sizes c.requires.ready c.requires.n_in_bounds c.requires.held,
       c.word-r.ensures.1,
-      (into_small c.requires c.if-d-eq0.false c.word-r.ensures.0 c.word-o.ensures.0
-          (choice_of c.args.choice) _ _ (ap move_of (sym c.child-1.given.1) ∙ c.Move-in.ensures)).0,
+      (into_small c.requires.ready c.requires.n_in_bounds c.requires.held c.if-d-eq0.false c.word-r.ensures.0 c.word-o.ensures.0
+          (choice_of c.args.choice) _ _ c.in-Into.ensures).0,
     )
 
 pub put_frame-requires-in-Into-2 : goal.put_frame-requires-in-Into-2
 put_frame-requires-in-Into-2 c =
     omega (
       arith,
-      sizes c.requires,
-      c.put_frame-in-Into.auto.0,
-      into_room c.requires c.if-d-eq0.false c.word-r.ensures.0 c.word-o.ensures.0
-          (choice_of c.args.choice) _ _ (ap move_of (sym c.child-1.given.1) ∙ c.Move-in.ensures) _ c.child_at-entered.ensures,
+      sizes c.requires.ready c.requires.n_in_bounds c.requires.held,
+      c.put_frame-in-Into.auto.frames,
+      into_room c.requires.ready c.requires.n_in_bounds c.requires.held c.if-d-eq0.false c.word-r.ensures.0 c.word-o.ensures.0
+          (choice_of c.args.choice) _ _ c.in-Into.ensures _ c.child_at-entered.ensures,
     )
 
 pub overflow_add-result : goal.overflow_add-result
 overflow_add-result c =
-    omega (arith, sizes c.requires)
+    omega (arith, sizes c.requires.ready c.requires.n_in_bounds c.requires.held)
 
 pub returns-in-Gone : goal.returns-in-Gone
 returns-in-Gone c =
-    held_gone c.requires c.if-d-eq0.false c.word-r.ensures.0 c.word-o.ensures.0 (choice_of c.args.choice)
-    (ap move_of (sym c.enum_told-1.given.1) ∙ c.Move-in.ensures) c.put_frame.ensures
+    held_gone c.requires.ready c.requires.n_in_bounds c.requires.held c.if-d-eq0.false c.word-r.ensures.0 c.word-o.ensures.0 (choice_of c.args.choice)
+    c.in-Gone.ensures c.put_frame.ensures
 
 pub returns-in-To : goal.returns-in-To
 returns-in-To c =
-    held_to c.requires c.if-d-eq0.false c.word-r.ensures.0 c.word-o.ensures.0 (choice_of c.args.choice) _
-    (ap move_of (sym c.offset-1.given.1) ∙ c.Move-in.ensures) c.put_frame-in-To.ensures
+    held_to c.requires.ready c.requires.n_in_bounds c.requires.held c.if-d-eq0.false c.word-r.ensures.0 c.word-o.ensures.0 (choice_of c.args.choice) _
+    c.in-To.ensures c.put_frame-in-To.ensures
 
 pub returns-in-Into : goal.returns-in-Into
 returns-in-Into c =
-    held_into c.requires c.if-d-eq0.false c.word-r.ensures.0 c.word-o.ensures.0 (choice_of c.args.choice) _ _
-    (ap move_of (sym c.child-1.given.1) ∙ c.Move-in.ensures) _ c.child_at-entered.ensures c.put_frame-in-Into.ensures c.put_frame-in-Into-2.ensures
+    held_into c.requires.ready c.requires.n_in_bounds c.requires.held c.if-d-eq0.false c.word-r.ensures.0 c.word-o.ensures.0 (choice_of c.args.choice) _ _
+    c.in-Into.ensures _ c.child_at-entered.ensures c.put_frame-in-Into.ensures c.put_frame-in-Into-2.ensures

@@ -1,13 +1,8 @@
 -- `run::walk` meets its contract.
 -- Assumes nothing.
 use native.Mathlib.Omega.{arith}
-use Prim.Native.Nat.{◌-◌}
-use mathlib.Core.Path.{◌≡◌, refl, subst}
-use lib.ListN.{length}
-use Rattle.exam.specs.View.{pattern_at}
-use Rattle.moves.specs.declared.Read.{Read}
-use Rattle.moves.specs.Answers.{ReadAt}
-use Rattle.run.proofs.Walks.{Walking, walking_start, walking_bad, walking_step, walking_end}
+use mathlib.Core.Path.{refl}
+use Rattle.run.proofs.Walks.{walking_start, walking_bad, walking_step, walking_end}
 use borrow.Author.Rules.{rules}
 use Rattle.run.proofs.walk.Goals as goal
 
@@ -17,19 +12,18 @@ loop-i-init c =
 
 pub returns-in-Bad : goal.returns-in-Bad
 returns-in-Bad c =
-    walking_bad c.loop-i.invariant.1 (subst (λ (r : Read). ReadAt c.args.choices.now c.loop-i.i r) c.enum_told-1.given.1 c.choice_at.ensures)
+    walking_bad c.loop-i.invariant.1 c.in-Bad.ensures
 
 pub one_step-d-requires : goal.one_step-d-requires
 one_step-d-requires c =
     record { ready = c.requires.ready; n_in_bounds = omega (arith, c.requires.n_in_bounds, c.loop-i.invariant.0); held = c.loop-i.invariant.1.held }
 
 pub loop-i-smaller : goal.loop-i-smaller
-loop-i-smaller c =
-    let q = subst (λ (r : Read). ReadAt c.args.choices.now c.loop-i.i r) c.choice-1.given.1 c.choice_at.ensures in omega (arith, q.later, q.inside)
+loop-i-smaller c = omega (arith, c.in-Next.ensures.later, c.in-Next.ensures.inside)
 
 pub loop-i-preserved : goal.loop-i-preserved
 loop-i-preserved c =
-    (search rules, walking_step c.loop-i.invariant.1 (subst (λ (r : Read). ReadAt c.args.choices.now c.loop-i.i r) c.choice-1.given.1 c.choice_at.ensures) c.one_step-d.ensures)
+    (search rules, walking_step c.loop-i.invariant.1 c.in-Next.ensures c.one_step-d.ensures)
 
 pub returns : goal.returns
 returns c = walking_end c.loop-i.invariant.1 c.loop-i-test.false

@@ -1,14 +1,10 @@
 -- `run::walk` meets its contract.
 -- Assumes nothing.
-use native.Mathlib.Omega.{arith}
 use Prim.Native.Nat.{◌-◌}
-use mathlib.Core.Path.{◌≡◌, refl, subst}
+use mathlib.Core.Path.{◌≡◌}
 use lib.ListN.{length}
 use Rattle.exam.specs.View.{pattern_at}
-use Rattle.moves.specs.declared.Read.{Read}
-use Rattle.moves.specs.Answers.{ReadAt}
-use Rattle.run.proofs.Walks.{Walking, walking_start, walking_bad, walking_step, walking_end}
-use borrow.Author.Rules.{rules}
+use Rattle.run.proofs.Walks.{Walking}
 use Rattle.run.proofs.walk.Given as goal
 
 abbrev pub invariant-loop-i : goal.invariant-loop-i
