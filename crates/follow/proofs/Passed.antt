@@ -19,7 +19,6 @@ use Rattle.format.specs.Run.{Choice, Standing, standing, run, choices, following
 use Rattle.format.proofs.Answers.{ok_refused}
 use Rattle.exam.specs.View.{pattern_at, Ready}
 use Rattle.sections.specs.declared.Used.{Used}
-use Rattle.file.specs.declared.Loaded.{Loaded}
 use Rattle.file.specs.declared.Loaded.TheVariants as loaded
 use Rattle.rite.specs.Answers.{counts_of, loaded_of}
 use Rattle.run.specs.Follow.{out, follow_out}
@@ -102,8 +101,8 @@ passed f m allow q rows c e = go (loading f m allow) refl e
             let s : d ≡ c = cc in
             rw (← s) (record { loads = l; few = leb-true (length (records_of d)) rows p; passes = eqb-true (examine_pattern q (pattern_of f d)) 0 r })
 
-module _ (f : List ℕ) (m : Nine) (allow : Allowance) (q : List ℕ) (w : Words) (u : Used) (n : ℕ) (r : Loaded)
-    (e : loaded_of r w ≡ laid m (passing_in f m allow q (n / 2))) (rows : r ≡ loaded.Rows u) where
+module _ (f : List ℕ) (m : Nine) (allow : Allowance) (q : List ℕ) (w : Words) (u : Used) (n : ℕ)
+    (e : loaded_of (loaded.Rows u) w ≡ laid m (passing_in f m allow q (n / 2))) where
   -- the content, which is loaded and passes
   record Has : Type 0 where
     c : Content
@@ -112,7 +111,7 @@ module _ (f : List ℕ) (m : Nine) (allow : Allowance) (q : List ℕ) (w : Words
     same : given.content ≡ c
 
   has : Has
-  has = go (passing_in f m allow q (n / 2)) refl (ap (λ x. loaded_of x w) (sym rows) ∙ e)
+  has = go (passing_in f m allow q (n / 2)) refl e
     where
       go : (a : Answer Content) → passing_in f m allow q (n / 2) ≡ a → loaded_of (loaded.Rows u) w ≡ laid m a → Has
       go (refused k) l e = let x : ok (counts_of u) ≡ refused k = ap (λ l. l.answer) e in absurd (ok_refused (sym x))
@@ -186,10 +185,10 @@ module _ (f : List ℕ) (m : Nine) (allow : Allowance) (q : List ℕ) (w : Words
             whole_same a z b ∙ sym (follow_is f m allow q n bs h.c (following_same bs h) (refused e) r)
 
 -- a file that is not loaded, or does not pass
-pub stopped : (f : List ℕ) (m : Nine) (allow : Allowance) (q : List ℕ) (w : Words) (k n : ℕ) (bs : List ℕ) (r : Loaded) → loaded_of r w ≡ laid m (passing_in f m allow q (n / 2)) → r ≡ loaded.Refused k
-    → (t : List ℕ) → t ≡ replicate n 0 → whole (refused k) w t ≡ follow f m allow q n bs
+pub stopped : (f : List ℕ) (m : Nine) (allow : Allowance) (q : List ℕ) (w : Words) (k n : ℕ) (bs : List ℕ)
+    → loaded_of (loaded.Refused k) w ≡ laid m (passing_in f m allow q (n / 2)) → (t : List ℕ) → t ≡ replicate n 0 → whole (refused k) w t ≡ follow f m allow q n bs
 unfolding follow format.frame_table format.laid_frames
-stopped f m allow q w k n bs r e s t z = go (passing_in f m allow q (n / 2)) refl (ap (λ x. loaded_of x w) (sym s) ∙ e)
+stopped f m allow q w k n bs e t z = go (passing_in f m allow q (n / 2)) refl e
   where
     go : (a : Answer Content) → passing_in f m allow q (n / 2) ≡ a → loaded_of (loaded.Refused k) w ≡ laid m a → whole (refused k) w t ≡ follow f m allow q n bs
     go (ok c) l e = let x : refused k ≡ ok (counts c) = ap (λ l. l.answer) e in absurd (ok_refused x)

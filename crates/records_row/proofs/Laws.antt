@@ -12,7 +12,7 @@ use lib.Seq.{length-take-le, get_or-take, get_or-drop}
 use borrow.Author.Tests.{lt-ltb, leb-true, leb-false}
 use Rattle.format.specs.Rows.{RecordRow, record_width, record_words, table_of}
 use Rattle.format.specs.Line.{rows_from}
-use Rattle.format.specs.Lookup.{word, record_word, record_row_at, has_row}
+use Rattle.format.specs.Lookup.{record_word, record_row_at, has_row}
 use Rattle.layout.proofs.Back.{rows_back, table_zero, has_row_lem, record_back}
 use Rattle.records_row.specs.Row.{struct_of, struct_words, zero_row, row_at}
 

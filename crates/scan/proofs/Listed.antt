@@ -6,7 +6,7 @@ use mathlib.Core.Bool.{Bool, true, false, ◌&&◌}
 use mathlib.Core.List.{List}
 use lib.Dec.{ltb}
 use Rattle.format.specs.Bytes.{byte}
-use Rattle.format.specs.Insn.{prefix, opcode}
+use Rattle.format.specs.Insn.{prefix}
 use Rattle.format.specs.Permitted.{permits, permitted_at}
 use Rattle.runs.proofs.Next.{opcode_alone, opcode_behind}
 use Rattle.examine_list.specs.Full.{said}

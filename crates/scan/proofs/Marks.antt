@@ -11,7 +11,7 @@ use lib.Dec.{ltb}
 use lib.ListN.{length, get_or, set, drop, length-set}
 use lib.Seq.{drop-cons, get_or-set_same, get_or-set_other}
 use borrow.Author.Tests.{ltb-true, ltb-false, lt-ltb}
-use Rattle.format.specs.Bytes.{byte, refuse, first}
+use Rattle.format.specs.Bytes.{refuse, first}
 use Rattle.format.specs.Insn.{next}
 use Rattle.format.specs.Pattern.{reach, begins}
 use Rattle.format.specs.Permitted.{permitted_at}

@@ -11,29 +11,24 @@ use std::path::{Path, PathBuf};
 use std::process::{Command, Stdio};
 use std::time::{Duration, SystemTime};
 
-/// Proves each named crate, but for one whose source says so, and makes an archive.
+/// Proves the crate of its folder, but for one whose source says so, and makes its library.
 const RT: &str = r#"#!/bin/sh
-echo "rt $*" >>calls
+crate=${PWD##*/}
 case $1 in
-version) echo kit-of-the-test ;;
-check)
-    shift
-    for crate in "$@"; do
-        echo failed >target/log/$crate.res
-        [ $crate != middle ] || sleep "$(cat pause)"
-        if grep -q wrong crates/$crate/src/lib.rt; then
-            echo "rt: $crate NOT PROVED" >target/log/$crate.out
-            exit 1
-        fi
-        echo "rt: $crate proved (unchanged since it was last proved)" | tee target/log/$crate.out
-        echo proved >target/log/$crate.res
-    done
+version)
+    echo "rt version" >>"$TOP/calls"
+    echo kit-of-the-test
     ;;
-staticlib)
-    sleep "$(cat pause)"
-    grep -q wrong crates/blotheath/src/lib.rt && exit 1
-    grep -q silent crates/blotheath/src/lib.rt || echo logic=proved
-    cat crates/*/src/lib.rt >target/staticlib/libblotheath.a
+lib)
+    echo "rt lib in $crate" >>"$TOP/calls"
+    [ $crate = low ] || sleep "$(cat "$TOP/pause")"
+    if grep -q wrong src/lib.rt; then
+        echo logic=not-proved
+        exit 1
+    fi
+    grep -q silent src/lib.rt || echo logic=proved
+    mkdir -p out
+    [ $crate != blotheath ] || cat ../*/src/lib.rt >out/libblotheath.a
     ;;
 esac
 "#;
@@ -64,7 +59,7 @@ impl Repository {
         repository.write("host/Cargo.lock", "");
         repository.write("host/blotheath/Cargo.toml", "");
         repository.write("host/blotheath/build.rs", "");
-        let listed = "# crates\nlow:\nmiddle: low # and io\nblotheath: middle\nother: low\n";
+        let listed = "# crates\nlow:\nmiddle: low # and io\nblotheath staticlib: middle\nother: low\n";
         repository.write("crates.txt", listed);
         for name in ["low", "middle", "blotheath", "other"] {
             repository.write(&format!("crates/{name}/src/lib.rt"), name);
@@ -154,16 +149,16 @@ fn the_first_run_proves_each_crate_once_and_later_runs_call_nothing() {
     let ran = repository.run(&["examine", "a b"]);
     assert_eq!((ran.status, &ran.out[..]), (0, "program examine a b\n"));
     assert!(ran.err.contains("3 crates are proved"), "{}", ran.err);
-    assert!(!ran.err.contains("unchanged"), "{}", ran.err);
     let calls = repository.calls();
     let tools = [
-        "rt check low middle",
-        "rt staticlib blotheath",
+        "rt lib in low",
+        "rt lib in middle",
+        "rt lib in blotheath",
         "rt version",
     ];
-    assert_eq!(calls[..3], tools);
-    assert!(calls[3].starts_with("cargo build --offline"), "{calls:?}");
-    assert_eq!(calls.len(), 4);
+    assert_eq!(calls[..4], tools);
+    assert!(calls[4].starts_with("cargo build --offline"), "{calls:?}");
+    assert_eq!(calls.len(), 5);
     for words in [&["examine"][..], &["--help"], &["--version"]] {
         let ran = repository.run(words);
         assert_eq!(ran.out, format!("program {}\n", words.join(" ")));
@@ -186,7 +181,7 @@ fn a_change_is_built() {
     let version = repository.run(&["--version"]);
     assert!(version.out.contains("builds anew"), "{version:?}");
     assert_eq!(repository.run(&["load"]).out, "program load\n");
-    assert_eq!(repository.calls().len(), 4);
+    assert_eq!(repository.calls().len(), 5);
 }
 
 #[test]
@@ -229,7 +224,7 @@ fn two_first_runs_at_once() {
         let told = |line: &str| line.starts_with(&begin) && line.ends_with(&end);
         assert!(lines.lines().any(told), "{lines}");
     }
-    assert_eq!(repository.calls().len(), 4);
+    assert_eq!(repository.calls().len(), 5);
 }
 
 #[test]

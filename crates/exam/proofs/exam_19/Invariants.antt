@@ -1,9 +1,7 @@
 -- `exam::exam_19` meets its contract.
 -- Assumes nothing.
 use Prim.Native.Nat.{◌-◌, ◌+◌}
-use mathlib.Core.Path.{◌∙◌}
-use borrow.Author.Tests.{not-true, not-false}
-use Rattle.exam.proofs.Turns.{Caught, caught_start, caught_turn, caught_bad, caught_end, at_word}
+use Rattle.exam.proofs.Turns.{Caught}
 use Rattle.exam.proofs.exam_19.Given as goal
 
 abbrev pub invariant-loop-h : goal.invariant-loop-h

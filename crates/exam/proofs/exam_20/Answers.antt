@@ -1,7 +1,6 @@
 -- `exam::exam_20` meets its contract.
 -- Assumes nothing.
-use Prim.Native.Nat.{◌-◌, ◌+◌}
-use Rattle.exam.proofs.Turns.{Risen, risen_start, risen_turn, risen_bad, risen_end}
+use Rattle.exam.proofs.Turns.{risen_start, risen_turn, risen_bad, risen_end}
 use Rattle.exam.proofs.exam_20.Goals as goal
 
 pub loop-j-init : goal.loop-j-init

@@ -1,7 +1,7 @@
 -- `exam::exam_20` meets its contract.
 -- Assumes nothing.
 use Prim.Native.Nat.{◌-◌, ◌+◌}
-use Rattle.exam.proofs.Turns.{Risen, risen_start, risen_turn, risen_bad, risen_end}
+use Rattle.exam.proofs.Turns.{Risen}
 use Rattle.exam.proofs.exam_20.Given as goal
 
 abbrev pub invariant-loop-j : goal.invariant-loop-j

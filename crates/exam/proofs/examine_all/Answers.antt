@@ -1,10 +1,8 @@
 -- `exam::examine_all` meets its contract.
 -- Assumes nothing.
 use native.Mathlib.Omega.{arith}
-use Prim.Native.Nat.{◌-◌}
-use mathlib.Core.Path.{◌≡◌, refl}
-use lib.ListN.{length}
-use Rattle.exam.proofs.Join.{Passed, passed_start, passed_turn, passed_stop, passed_end}
+use mathlib.Core.Path.{refl}
+use Rattle.exam.proofs.Join.{passed_start, passed_turn, passed_stop, passed_end}
 use borrow.Author.Rules.{rules}
 use Rattle.exam.proofs.examine_all.Goals as goal
 
@@ -14,7 +12,7 @@ loop-r-init c = (refl, passed_start)
 pub examine_record-a-requires : goal.examine_record-a-requires
 examine_record-a-requires c =
     let p = c.requires in
-    record { row_fits = p.0.each c.loop-r.r c.loop-r-test.true; file_in_bounds = omega (arith, p.1.0, c.loop-r.invariant.0); full = p.1.1 }
+    record { row_fits = p.fits.each c.loop-r.r c.loop-r-test.true; file_in_bounds = omega (arith, p.file_in_bounds, c.loop-r.invariant.0); full = p.full }
 
 pub returns-then-a-ne0 : goal.returns-then-a-ne0
 returns-then-a-ne0 c =

@@ -1,11 +1,9 @@
 -- `exam::examine_all` meets its contract.
 -- Assumes nothing.
-use native.Mathlib.Omega.{arith}
 use Prim.Native.Nat.{◌-◌}
-use mathlib.Core.Path.{◌≡◌, refl}
+use mathlib.Core.Path.{◌≡◌}
 use lib.ListN.{length}
-use Rattle.exam.proofs.Join.{Passed, passed_start, passed_turn, passed_stop, passed_end}
-use borrow.Author.Rules.{rules}
+use Rattle.exam.proofs.Join.{Passed}
 use Rattle.exam.proofs.examine_all.Given as goal
 
 abbrev pub invariant-loop-r : goal.invariant-loop-r

@@ -2,18 +2,11 @@
 -- Assumes nothing.
 use mathlib.Core.Path.{refl, ◌∙◌}
 use Rattle.exam.proofs.Join.{record_is}
-use borrow.Author.Rules.{rules}
 use Rattle.exam.proofs.examine_record.Goals as goal
 
-pub examine_part-requires : goal.examine_part-requires
-examine_part-requires c =
-    (
-      search rules,
-      (
-        record { seven = refl; plain_limit = refl; pair_limit = c.less-pair.ensures; triple_limit = c.less-triple.ensures },
-        (search rules, (search rules, c.requires.full)),
-      ),
-    )
+pub examine_part-requires-clause-limits : goal.examine_part-requires-clause-limits
+examine_part-requires-clause-limits c =
+    record { seven = refl; plain_limit = refl; pair_limit = c.less-pair.ensures; triple_limit = c.less-triple.ensures }
 
 pub returns : goal.returns
 returns c =

@@ -1,7 +1,6 @@
 -- `exam::examine_tables` meets its contract.
 -- Assumes nothing.
 use mathlib.Core.Path.{sym, ◌∙◌}
-use borrow.Author.Tests.{not-true, not-false}
 use Rattle.exam.proofs.Join.{tree_bad, tree_good}
 use Rattle.exam.proofs.examine_tables.Goals as goal
 
@@ -12,11 +11,11 @@ whole_tree-requires c =
 pub returns-then-not-whole_tree : goal.returns-then-not-whole_tree
 returns-then-not-whole_tree c =
     let a = c.args in
-    tree_bad a.file.now a.records.now a.handlers.now a.lines.now a.n a.permitted.now (sym c.whole_tree.ensures ∙ not-true _ c.if-not-whole_tree.true)
+    tree_bad a.file.now a.records.now a.handlers.now a.lines.now a.n a.permitted.now (sym c.whole_tree.ensures ∙ c.if-not-whole_tree.true)
 
 pub returns : goal.returns
 returns c =
     let a = c.args in
     c.examine_records.ensures
     ∙ tree_good a.file.now a.records.now a.handlers.now a.lines.now a.n a.permitted.now
-    (sym c.whole_tree.ensures ∙ not-false _ c.if-not-whole_tree.false)
+    (sym c.whole_tree.ensures ∙ c.if-not-whole_tree.false)

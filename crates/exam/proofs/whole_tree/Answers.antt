@@ -1,7 +1,6 @@
 -- `exam::whole_tree` meets its contract.
 -- Assumes nothing.
-use Prim.Native.Nat.{◌-◌}
-use Rattle.exam.proofs.Join.{Laid, laid_start, laid_turn, laid_bad, laid_end}
+use Rattle.exam.proofs.Join.{laid_start, laid_turn, laid_bad, laid_end}
 use Rattle.exam.proofs.whole_tree.Goals as goal
 
 pub loop-i-init : goal.loop-i-init

@@ -1,7 +1,7 @@
 -- `exam::whole_tree` meets its contract.
 -- Assumes nothing.
 use Prim.Native.Nat.{◌-◌}
-use Rattle.exam.proofs.Join.{Laid, laid_start, laid_turn, laid_bad, laid_end}
+use Rattle.exam.proofs.Join.{Laid}
 use Rattle.exam.proofs.whole_tree.Given as goal
 
 abbrev pub invariant-loop-i : goal.invariant-loop-i

@@ -1,11 +1,10 @@
 -- `examine_list::write_full` meets its contract.
 -- Assumes nothing.
 use native.Mathlib.Omega.{arith}
-use Prim.Native.Nat.{◌-◌}
 use mathlib.Core.Path.{sym, ◌∙◌}
 use lib.ListN.{length}
 use Rattle.format.proofs.Least.{least_below}
-use Rattle.examine_list.proofs.Full.{Writing, writing_start, writing_inside, writing_turn, writing_end}
+use Rattle.examine_list.proofs.Full.{writing_start, writing_inside, writing_turn, writing_end}
 use Rattle.examine_list.proofs.write_full.Goals as goal
 
 pub loop-i-init : goal.loop-i-init

@@ -9,7 +9,7 @@ pub returns-then-n-eq-ALL_IN_ONE : goal.returns-then-n-eq-ALL_IN_ONE
 returns-then-n-eq-ALL_IN_ONE c = (rw (eq-eqb c.args.n 15 c.if-n-eq-ALL_IN_ONE.true), omega arith)
 
 pub overflow_mul-result : goal.overflow_mul-result
-overflow_mul-result c = c in omega (arith, mul-le-mul_right start.args.n start.requires.0)
+overflow_mul-result c = omega (arith, mul-le-mul_right c.args.n c.requires.0)
 
 pub returns : goal.returns
 returns c =

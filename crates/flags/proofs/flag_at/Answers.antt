@@ -11,7 +11,11 @@ use Rattle.flags.proofs.flag_at.Goals as goal
 pub operands_below-below-requires : goal.operands_below-below-requires
 operands_below-below-requires c =
     let p = c.requires in
-    record { limits = p.0; numbered = numbered p.1.looked; le_x = (omega arith, omega arith, omega arith, omega arith, omega (arith, p.1.looked.inside)) }
+    record {
+      limits = p.limits;
+      numbered = numbered p.alone.looked;
+      le_x = (omega arith, omega arith, omega arith, omega arith, omega (arith, p.alone.looked.inside));
+    }
 
 pub returns : goal.returns
 returns c =

@@ -1,9 +1,13 @@
 -- `flags::next_offset` meets its contract.
 -- Assumes nothing.
 use native.Mathlib.Omega.{arith}
-use Prim.Native.Nat.{◌+◌}
+use Prim.Native.Nat.{ℕ, ◌+◌}
 use mathlib.Core.Path.{◌≡◌}
+use mathlib.Core.List.{List}
+use Rattle.format.specs.Bytes.{byte}
 use Rattle.format.specs.Insn.{next}
+use Rattle.opcode.specs.Digits.{size_in, digits_of}
+use Rattle.flags.specs.Flags.{Entire, size_behind}
 use Rattle.flags.proofs.Tested.{entire_whole, prefix_here, behind_inside, behind_size, next_here, next_behind}
 use Rattle.flags.proofs.next_offset.Goals as goal
 
@@ -11,17 +15,17 @@ pub bounds-code-i-then-n-eq0-2 : goal.bounds-code-i-then-n-eq0-2
 bounds-code-i-then-n-eq0-2 c =
     behind_inside c.requires c.digits-n.ensures c.if-n-eq0.true
 
-behind : (c : goal.at.After-size_behind)
-    → let a = c.args in a.i + c.size_behind.result ≡ next a.code.now a.i
-behind c =
-    let a = c.args in
-    let e = c.digits-n.ensures in
-    let z = c.if-n-eq0.true in
-    next_behind a.code.now a.i (behind_inside c.requires e z) (prefix_here c.requires e z) c.digits.ensures
-    (behind_size c.requires e z c.digits.ensures) c.size_behind.ensures.0
+-- the next offset, behind a prefix
+behind : {c : List ℕ} {i d k n : ℕ} → Entire c i → d ≡ digits_of (byte c i) → size_in d ≡ 0 → k ≡ digits_of (byte c (i + 1))
+    → n ≡ size_behind (byte c i) k → i + n ≡ next c i
+behind {c} {i} t e z g s = next_behind c i (behind_inside t e z) (prefix_here t e z) g (behind_size t e z g) s
 
 pub overflow_add-result : goal.overflow_add-result
-overflow_add-result c = omega (arith, behind c, entire_whole c.requires)
+overflow_add-result c =
+    omega (arith, behind c.requires c.digits-n.ensures c.if-n-eq0.true c.digits.ensures c.size_behind.ensures.0, entire_whole c.requires)
+
+pub returns-then-n-eq0 : goal.returns-then-n-eq0
+returns-then-n-eq0 c = behind c.requires c.digits-n.ensures c.if-n-eq0.true c.digits.ensures c.size_behind.ensures.0
 
 pub returns : goal.returns
 returns c =

@@ -2,12 +2,10 @@
 -- Assumes nothing.
 use native.Mathlib.Omega.{arith}
 use Prim.Native.Nat.{ℕ, ◌+◌, ◌<◌}
-use mathlib.Core.Bool.{true}
-use mathlib.Core.Path.{◌≡◌, ap, ◌∙◌}
+use mathlib.Core.Path.{ap, ◌∙◌}
 use lib.Dec.{ltb}
 use lib.ListN.{length}
 use Rattle.format.specs.Bytes.{byte}
-use Rattle.format.specs.Insn.{prefix}
 use Rattle.opcode.proofs.Numbers.{no_size}
 use Rattle.format.proofs.Prefix.{first_one_or_two, second_one_or_two}
 use Rattle.flags.proofs.Roles.{numbered, bounded_behind, flag_told}
@@ -22,28 +20,20 @@ returns-then-lead-eq0 c =
     let p = lead_none (byte code a.i) c.lead.ensures c.if-lead-eq0.true in
     tested_unreadable a.limits.now code a.i (not_stray code a.i p) (unknown_alone code a.i p c.requires.i_in_bounds.1)
 
--- the first byte is a prefix
-at_prefix : (c : goal.at.Else-lead-eq0) → let a = c.args in prefix (byte a.code.now a.i) ≡ true
-at_prefix c =
-    let a = c.args in
-    lead_some (byte a.code.now a.i) c.lead.ensures c.if-lead-eq0.false
-
 pub returns-then-at-code : goal.returns-then-at-code
 returns-then-at-code c =
     let a = c.args in
-    tested_stray a.limits.now a.code.now a.i (stray_last a.code.now a.i (at_prefix c) (omega (arith, c.if-at-code.true)))
-
--- and has a byte behind it
-more : (c : goal.at.Else-at-code) → let a = c.args in a.i + 1 < length a.code.now
-more c = omega (arith, c.if-at-code.false, c.requires.i_in_bounds.0)
+    let code = a.code.now in
+    let p = lead_some (byte code a.i) c.lead.ensures c.if-lead-eq0.false in
+    tested_stray a.limits.now code a.i (stray_last code a.i p (omega (arith, c.if-at-code.true)))
 
 pub returns-then-lead-eq0-2 : goal.returns-then-lead-eq0-2
 returns-then-lead-eq0-2 c =
     let a = c.args in
     let code = a.code.now in
     let b = byte code (a.i + 1) in
-    let p = at_prefix c in
-    let h = more c in
+    let p = lead_some (byte code a.i) c.lead.ensures c.if-lead-eq0.false in
+    let h : a.i + 1 < length code = omega (arith, c.if-at-code.false, c.requires.i_in_bounds.0) in
     let q = lead_none b c.lead-then-d-eq0.ensures c.if-lead-eq0-2.true in
     tested_unreadable a.limits.now code a.i (not_again code a.i p h q)
     (unknown_behind code a.i p h (no_size b c.digits-d.ensures c.if-d-eq0.true) q)
@@ -52,15 +42,17 @@ pub returns-then-d-eq0 : goal.returns-then-d-eq0
 returns-then-d-eq0 c =
     let a = c.args in
     let code = a.code.now in
+    let p = lead_some (byte code a.i) c.lead.ensures c.if-lead-eq0.false in
+    let h : a.i + 1 < length code = omega (arith, c.if-at-code.false, c.requires.i_in_bounds.0) in
     let q = lead_some (byte code (a.i + 1)) c.lead-then-d-eq0.ensures c.if-lead-eq0-2.false in
-    tested_stray a.limits.now code a.i (stray_again code a.i (at_prefix c) (more c) q)
+    tested_stray a.limits.now code a.i (stray_again code a.i p h q)
 
 pub returns-then-code-i : goal.returns-then-code-i
 returns-then-code-i c =
     let a = c.args in
     let code = a.code.now in
-    let p = at_prefix c in
-    let h = more c in
+    let p = lead_some (byte code a.i) c.lead.ensures c.if-lead-eq0.false in
+    let h : a.i + 1 < length code = omega (arith, c.if-at-code.false, c.requires.i_in_bounds.0) in
     let e = c.digits-d.ensures in
     let s = c.if-d-eq0.false in
     let n = next_behind code a.i h p e s c.size_behind-n.ensures.0 in
@@ -69,9 +61,12 @@ returns-then-code-i c =
 
 pub operands_below-below-requires : goal.operands_below-below-requires
 operands_below-below-requires c =
-    let code = c.args.code.now in
-    let b = byte code c.args.i in
-    let k = looked_behind code c.args.i (more c) (at_prefix c) c.digits-d.ensures c.if-d-eq0.false in
+    let a = c.args in
+    let code = a.code.now in
+    let b = byte code a.i in
+    let p = lead_some b c.lead.ensures c.if-lead-eq0.false in
+    let h : a.i + 1 < length code = omega (arith, c.if-at-code.false, c.requires.i_in_bounds.0) in
+    let k = looked_behind code a.i h p c.digits-d.ensures c.if-d-eq0.false in
     let x = first_one_or_two b c.first_width.ensures in
     let y = second_one_or_two b c.second_width.ensures in
     record { limits = c.requires.limits; numbered = numbered k; le_x = (x.0, x.1, y.0, y.1, omega (arith, k.inside)) }
@@ -80,8 +75,8 @@ pub returns : goal.returns
 returns c =
     let a = c.args in
     let code = a.code.now in
-    let p = at_prefix c in
-    let h = more c in
+    let p = lead_some (byte code a.i) c.lead.ensures c.if-lead-eq0.false in
+    let h : a.i + 1 < length code = omega (arith, c.if-at-code.false, c.requires.i_in_bounds.0) in
     let e = c.digits-d.ensures in
     let s = c.if-d-eq0.false in
     let n = next_behind code a.i h p e s c.size_behind-n.ensures.0 in

@@ -1,6 +1,6 @@
 -- `lvar::section_lvar` meets its contract.
 -- Assumes nothing.
-use Rattle.std.proofs.Common.{sym, ap, ◌∙◌, arith, rules}
+use Rattle.std.proofs.Common.{sym, ap, ◌∙◌, arith}
 use Rattle.format.specs.Bytes.{u32_at}
 use Rattle.binfmt.specs.Answers.{field32_of}
 use Rattle.rows.specs.Table.{out}
@@ -14,51 +14,50 @@ pub returns-in_default : goal.returns-in_default
 returns-in_default c =
     let a = c.args in
     section_cut a.f.now a.base a.count a.records.now a.strings.now a.names.now 0 8 (u32_at a.f.now 4) _ (omega arith)
-    (ap field32_of (sym c.enum_told-1.given.1) ∙ c.section_size.ensures)
+    (ap field32_of (sym c.in_default.is) ∙ c.section_size.ensures)
 
 pub returns-in_default-u32_at : goal.returns-in_default-u32_at
 returns-in_default-u32_at c =
     let a = c.args in
     section_cut a.f.now a.base a.count a.records.now a.strings.now a.names.now 8 4 (u32_at a.f.now 8) _ (omega arith)
-    (ap field32_of (sym c.enum_told-in_default-u32_at-1.given.1) ∙ c.u32_at.ensures)
+    (ap field32_of (sym c.in_default-u32_at.is) ∙ c.u32_at.ensures)
 
 pub returns-in-Refused : goal.returns-in-Refused
-returns-in-Refused c = c in
-    let q = s.before.before.before in
+returns-in-Refused c =
     let a = c.args in
-    let t = s.read_rows.new.1.1.1.1.1.0 in
-    section_strings a.f.now a.base a.count a.records.now a.strings.now a.names.now q.n.given.0.0 _ t
-    (ap field32_of (sym q.n.given.1) ∙ q.before.before.u32_at.ensures)
-    (ap (λ r. out r t) (sym c.k-1.given.1) ∙ s.read_rows.ensures)
+    let t = c.read_rows.new.t in
+    section_strings a.f.now a.base a.count a.records.now a.strings.now a.names.now c.in-Value-u32_at.n _ t
+    (ap field32_of (sym c.in-Value-u32_at.is) ∙ c.u32_at.ensures)
+    (ap (λ r. out r t) (sym c.in-Refused.is) ∙ c.read_rows.ensures)
 
 pub returns-in-Refused-read_lv_records : goal.returns-in-Refused-read_lv_records
 returns-in-Refused-read_lv_records c =
     let call = c.read_lv_records in
     let a = c.args in
-    let t = c.read_rows.new.1.1.1.1.1.0 in
-    ap (walked a.f.now c.at-1.given.0.1.0 t) (ap (λ r. out_of r call.new.1.0 call.new.1.1.0) (sym c.k-in-Refused-read_lv_records-1.given.1) ∙ call.ensures)
-    ∙ section_strings a.f.now a.base a.count a.records.now a.strings.now a.names.now c.n-1.given.0.0 _ t
-    (ap field32_of (sym c.n-1.given.1) ∙ c.u32_at.ensures)
-    (ap (λ r. out r t) (sym c.at-1.given.1) ∙ c.read_rows.ensures)
+    let t = c.read_rows.new.t in
+    ap (walked a.f.now c.in-Next.used t) (ap (λ r. out_of r call.new.records call.new.names) (sym c.in-Refused-read_lv_records.is) ∙ call.ensures)
+    ∙ section_strings a.f.now a.base a.count a.records.now a.strings.now a.names.now c.in-Value-u32_at.n _ t
+    (ap field32_of (sym c.in-Value-u32_at.is) ∙ c.u32_at.ensures)
+    (ap (λ r. out r t) (sym c.in-Next.is) ∙ c.read_rows.ensures)
 
 pub visits-requires : goal.visits-requires
 visits-requires c =
     let a = c.args in
     let call = c.read_lv_records in
-    let n = c.n-1.given.0.0 in
+    let n = c.in-Value-u32_at.n in
     let inside =
     lv_inside a.f.now n a.count 1 _ _ (omega arith)
-    (ap (λ r. out_of r call.new.1.0 call.new.1.1.0) (sym c.rec-1.given.1) ∙ call.ensures) in
-    omega (arith, inside, call.auto.1.0, c.requires.1)
+    (ap (λ r. out_of r call.new.records call.new.names) (sym c.in-Next-read_lv_records.is) ∙ call.ensures) in
+    omega (arith, inside, call.auto.records, c.requires.1)
 
 pub returns-in-Next-read_lv_records : goal.returns-in-Next-read_lv_records
 returns-in-Next-read_lv_records c =
     let a = c.args in
     let call = c.read_lv_records in
-    let t = c.read_rows.new.1.1.1.1.1.0 in
-    let size = (field_there a.f.now 0 8 (u32_at a.f.now 4) c.size-1.given.0.0 (ap field32_of (sym c.size-1.given.1) ∙ c.section_size.ensures)).1 in
+    let t = c.read_rows.new.t in
+    let size = (field_there a.f.now 0 8 (u32_at a.f.now 4) c.in-Value.size (ap field32_of (sym c.in-Value.is) ∙ c.section_size.ensures)).1 in
     rw (c.end_size.ensures, c.visits.ensures, size)
-    (ap (walked a.f.now c.at-1.given.0.1.0 t) (ap (λ r. out_of r call.new.1.0 call.new.1.1.0) (sym c.rec-1.given.1) ∙ call.ensures)
-    ∙ section_strings a.f.now a.base a.count a.records.now a.strings.now a.names.now c.n-1.given.0.0 _ t
-    (ap field32_of (sym c.n-1.given.1) ∙ c.u32_at.ensures)
-    (ap (λ r. out r t) (sym c.at-1.given.1) ∙ c.read_rows.ensures))
+    (ap (walked a.f.now c.in-Next.used t) (ap (λ r. out_of r call.new.records call.new.names) (sym c.in-Next-read_lv_records.is) ∙ call.ensures)
+    ∙ section_strings a.f.now a.base a.count a.records.now a.strings.now a.names.now c.in-Value-u32_at.n _ t
+    (ap field32_of (sym c.in-Value-u32_at.is) ∙ c.u32_at.ensures)
+    (ap (λ r. out r t) (sym c.in-Next.is) ∙ c.read_rows.ensures))

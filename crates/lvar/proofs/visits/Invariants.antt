@@ -1,8 +1,8 @@
 -- `lvar::visits` meets its contract.
 -- Assumes nothing.
-use Rattle.std.proofs.Common.{◌≡◌, ◌+◌, ◌-◌, ◌<◌, ◌≤◌, arith, rules}
+use Rattle.std.proofs.Common.{◌≡◌, ◌+◌, ◌-◌, ◌<◌, ◌≤◌}
 use Rattle.lvar.specs.Names.{visits_over, in_word}
-use Rattle.lvar.proofs.Sums.{left, left_start, left_turn, left_end}
+use Rattle.lvar.proofs.Sums.{left}
 use Rattle.lvar.proofs.visits.Given as goal
 
 -- the visits counted so far, with those to the children of the records left

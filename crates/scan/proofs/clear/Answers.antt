@@ -1,8 +1,6 @@
 -- `scan::clear` meets its contract.
 -- Assumes nothing.
 use native.Mathlib.Omega.{arith}
-use Prim.Native.Nat.{◌-◌}
-use Rattle.scan.specs.Scan.{Cleared}
 use Rattle.scan.proofs.Marks.{cleared_start, cleared_turn, cleared_end}
 use Rattle.scan.proofs.clear.Goals as goal
 

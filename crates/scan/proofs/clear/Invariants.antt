@@ -1,9 +1,7 @@
 -- `scan::clear` meets its contract.
 -- Assumes nothing.
-use native.Mathlib.Omega.{arith}
 use Prim.Native.Nat.{◌-◌}
 use Rattle.scan.specs.Scan.{Cleared}
-use Rattle.scan.proofs.Marks.{cleared_start, cleared_turn, cleared_end}
 use Rattle.scan.proofs.clear.Given as goal
 
 abbrev pub invariant-loop-i : goal.invariant-loop-i

@@ -1,13 +1,12 @@
 -- `scan::exam_16` meets its contract.
 -- Assumes nothing.
 use native.Mathlib.Omega.{arith}
-use Prim.Native.Nat.{◌-◌, ◌/◌, ◌<◌}
-use mathlib.Core.Path.{◌≡◌, refl}
-use lib.ListN.{length, length-set}
+use mathlib.Core.Path.{refl}
+use lib.ListN.{length-set}
 use Rattle.format.specs.Bytes.{byte}
 use Rattle.opcode.proofs.Numbers.{no_size}
 use Rattle.flags.proofs.Tested.{tested_small, tested_met, tested_passed, alone_here, cut_here, passed_here, prefix_here, behind_inside}
-use Rattle.scan.proofs.Marks.{Marking, marks_empty, marking_start, marks_met, entire, inside, marking_turn, marking_32, marking_end}
+use Rattle.scan.proofs.Marks.{marks_empty, marking_start, marks_met, entire, inside, marking_turn, marking_32, marking_end}
 use Rattle.scan.proofs.exam_16.Goals as goal
 
 pub returns-then-code-eq0 : goal.returns-then-code-eq0
@@ -22,12 +21,6 @@ loop-i-init c =
 pub test_behind-t-requires : goal.test_behind-t-requires
 test_behind-t-requires c =
     record { limits = c.requires.limits; i_in_bounds = (c.loop-i-test.true, no_size (byte c.args.code.now _) c.digits-d.ensures c.if-n-eq0.true) }
-
--- what the tests behind a prefix answer is a byte
-few : (c : goal.at.After-test_behind-t) → c.test_behind-t.result / 64 < 256
-few c =
-    let a = c.args in
-    tested_small a.limits.now a.code.now _ c.test_behind-t.ensures
 
 pub shape_of-flags-then-m-eq0 : goal.shape_of-flags-then-m-eq0
 shape_of-flags-then-m-eq0 c =
@@ -115,7 +108,7 @@ returns c =
     marking_end c.loop-i-test.false c.loop-i.invariant.1 c.if-all-eq0.false
 
 pub overflow_cast-result : goal.overflow_cast-result
-overflow_cast-result c = record { fits = omega (arith, few c) }
+overflow_cast-result c = record { fits = omega (arith, tested_small c.args.limits.now c.args.code.now _ c.test_behind-t.ensures) }
 
 pub overflow_cast-flags : goal.overflow_cast-flags
-overflow_cast-flags c = record { fits = omega (arith, few c) }
+overflow_cast-flags c = record { fits = omega (arith, tested_small c.args.limits.now c.args.code.now _ c.test_behind-t.ensures) }

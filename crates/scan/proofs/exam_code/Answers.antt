@@ -1,13 +1,10 @@
 -- `scan::exam_code` meets its contract.
 -- Assumes nothing.
 use native.Mathlib.Omega.{arith}
-use Prim.Native.Nat.{◌-◌}
 use mathlib.Core.Path.{ap, ◌∙◌}
-use lib.ListN.{length}
-use borrow.Author.Tests.{not-true, not-false}
-use Rattle.flags.specs.Flags.{bare, lands_from}
+use Rattle.flags.specs.Flags.{lands_from}
 use Rattle.flags.proofs.Goes.{flags_mark}
-use Rattle.scan.proofs.Going.{Going, going_start, going_skip, going_17, going_18, going_off, going_land, going_end, jump_entire, jump_inside, jump_behind}
+use Rattle.scan.proofs.Going.{going_start, going_skip, going_17, going_18, going_off, going_land, going_end, jump_entire, jump_inside, jump_behind}
 use Rattle.scan.proofs.Going.{passes, coded_marks, coded_stop, coded_end}
 use Rattle.scan.proofs.exam_code.Goals as goal
 
@@ -52,13 +49,13 @@ returns-then-not-lands_at c =
     let code = c.args.code.now in
     coded_stop c.exam_16-a.ensures c.if-a-ne0.false
     (going_off (c.exam_16-a.ensures.flagged c.if-a-ne0.false) c.loop-i-test.true c.loop-i.invariant
-    (omega (arith, c.if-v-lt-HIGH.false, c.if-v-eq-HIGH.false, c.if-v-gt-TARGETED.false)) (c.lands_at.ensures ∙ ap (lands_from code) c.next_offset.ensures) (not-true _ c.if-not-lands_at.true))
+    (omega (arith, c.if-v-lt-HIGH.false, c.if-v-eq-HIGH.false, c.if-v-gt-TARGETED.false)) (c.lands_at.ensures ∙ ap (lands_from code) c.next_offset.ensures) c.if-not-lands_at.true)
 
 pub loop-i-preserved : goal.loop-i-preserved
 loop-i-preserved c =
     let code = c.args.code.now in
     going_land (c.exam_16-a.ensures.flagged c.if-a-ne0.false) c.loop-i-test.true c.loop-i.invariant
-    (omega (arith, c.if-v-lt-HIGH.false, c.if-v-eq-HIGH.false, c.if-v-gt-TARGETED.false)) (c.lands_at.ensures ∙ ap (lands_from code) c.next_offset.ensures) (not-false _ c.if-not-lands_at.false)
+    (omega (arith, c.if-v-lt-HIGH.false, c.if-v-eq-HIGH.false, c.if-v-gt-TARGETED.false)) (c.lands_at.ensures ∙ ap (lands_from code) c.next_offset.ensures) c.if-not-lands_at.false
 
 pub returns : goal.returns
 returns c = coded_end c.exam_16-a.ensures c.if-a-ne0.false (going_end c.loop-i-test.false c.loop-i.invariant)
