@@ -59,7 +59,8 @@ impl Repository {
         repository.write("host/Cargo.lock", "");
         repository.write("host/blotheath/Cargo.toml", "");
         repository.write("host/blotheath/build.rs", "");
-        let listed = "# crates\nlow:\nmiddle: low # and io\nblotheath staticlib: middle\nother: low\n";
+        let listed =
+            "# crates\nlow:\nmiddle: low # and io\nblotheath staticlib: middle\nother: low\n";
         repository.write("crates.txt", listed);
         for name in ["low", "middle", "blotheath", "other"] {
             repository.write(&format!("crates/{name}/src/lib.rt"), name);
@@ -149,6 +150,7 @@ fn the_first_run_proves_each_crate_once_and_later_runs_call_nothing() {
     let ran = repository.run(&["examine", "a b"]);
     assert_eq!((ran.status, &ran.out[..]), (0, "program examine a b\n"));
     assert!(ran.err.contains("3 crates are proved"), "{}", ran.err);
+    assert!(!ran.err.contains("logic"), "{}", ran.err);
     let calls = repository.calls();
     let tools = [
         "rt lib in low",

@@ -1,4 +1,4 @@
--- `load::clear` meets its contract. Assumes nothing.
+-- `rows::clear` meets its contract. Assumes nothing.
 use native.Mathlib.Omega.{arith}
 use mathlib.Core.Path.{◌≡◌, refl, ◌∙◌}
 use mathlib.Core.List.{append-nil}

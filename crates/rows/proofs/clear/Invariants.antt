@@ -1,4 +1,4 @@
--- `load::clear` meets its contract. Assumes nothing.
+-- `rows::clear` meets its contract. Assumes nothing.
 use Prim.Native.Nat.{◌-◌, ◌≤◌}
 use mathlib.Core.Path.{◌≡◌}
 use mathlib.Core.List.{◌++◌}
