@@ -21,20 +21,9 @@ use Rattle.opcode.specs.Digits.{first_byte, second_byte, row_digits, instruction
 pub at : {b k : ℕ} → b ≡ k → digits_of k ≡ digits_of b
 at e = ap digits_of (sym e)
 
--- b is none of the numbers below n
-abbrev pub NoneOf : ℕ → ℕ → Type 0
-NoneOf zero b = Unit {0}
-NoneOf (suc n) b = NoneOf n b × (b ≡ n → ⊥)
-
-not_below : (n b : ℕ) → NoneOf n b → n ≤ b
-not_below zero b h = omega arith
-not_below (suc n) b h = omega (arith, not_below n b h.0, h.1)
-
-pub above : {b : ℕ} → NoneOf 119 b → row_digits 0 (op NOP Z [] on) ≡ digits_of b
+pub above : (b : ℕ) → 119 ≤ b → row_digits 0 (op NOP Z [] on) ≡ digits_of b
 unfolding row table
-above {b} h =
-    let n = not_below 119 b h in
-    rw (le-ltb b 119 n) (ap (row_digits 0) (sym (get_or-eq_default table (op NOP Z [] on) {n = b} n)))
+above b n = rw (le-ltb b 119 n) (ap (row_digits 0) (sym (get_or-eq_default table (op NOP Z [] on) {n = b} n)))
 
 pub role_small : (x : Role) → role_number x < 5
 role_small plain = omega arith
@@ -184,46 +173,6 @@ kind_back BSS = refl
 kind_back BBB = refl
 kind_back S = refl
 kind_back W = refl
-
--- of a number that has no arm
-pub role_else : (n : ℕ) → NoneOf 5 n → reg ≡ role_at n
-role_else n h = go n (not_below 5 n h)
-  where
-    go : (n : ℕ) → 5 ≤ n → reg ≡ role_at n
-    go zero s = absurd (omega arith)
-    go (suc zero) s = absurd (omega arith)
-    go (suc (suc zero)) s = absurd (omega arith)
-    go (suc (suc (suc zero))) s = absurd (omega arith)
-    go (suc (suc (suc (suc zero)))) s = absurd (omega arith)
-    go (suc (suc (suc (suc (suc n))))) s = refl
-
-pub kind_else : (n : ℕ) → NoneOf 7 n → W ≡ kind_at n
-kind_else n h = go n (not_below 7 n h)
-  where
-    go : (n : ℕ) → 7 ≤ n → W ≡ kind_at n
-    go zero s = absurd (omega arith)
-    go (suc zero) s = absurd (omega arith)
-    go (suc (suc zero)) s = absurd (omega arith)
-    go (suc (suc (suc zero))) s = absurd (omega arith)
-    go (suc (suc (suc (suc zero)))) s = absurd (omega arith)
-    go (suc (suc (suc (suc (suc zero))))) s = absurd (omega arith)
-    go (suc (suc (suc (suc (suc (suc zero)))))) s = absurd (omega arith)
-    go (suc (suc (suc (suc (suc (suc (suc n))))))) s = refl
-
--- where a run goes on, by the flags x inside a record and y at its end
-module _ (x y : ℕ) where
-  pub flow_ends : y ≡ 1 → ends ≡ flow_at x y
-  flow_ends e = rw e
-
-  pub flow_jumps : y ≡ 3 → jumps ≡ flow_at x y
-  flow_jumps e = rw e
-
-  module _ (p : y ≡ 1 → ⊥) (q : y ≡ 3 → ⊥) where
-    pub flow_on : x ≡ 1 → on ≡ flow_at x y
-    flow_on e = rw (ne_eqb y 1 p, ne_eqb y 3 q, e)
-
-    pub flow_may : (x ≡ 1 → ⊥) → may ≡ flow_at x y
-    flow_may e = rw (ne_eqb y 1 p, ne_eqb y 3 q, ne_eqb x 1 e)
 
 pub few : (b : ℕ) → cond (instruction b) (size b) 0 < 64
 few b = go (instruction b)
