@@ -8,4 +8,5 @@ pub returns-then-bin-size : goal.returns-then-bin-size
 returns-then-bin-size c = short c.args.bin.now Z c.size.ensures c.if-bin-size.true
 
 pub returns : goal.returns
+unfolding operands
 returns c = whole c.args.bin.now Z c.size.ensures c.if-bin-size.false
