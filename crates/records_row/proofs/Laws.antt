@@ -16,10 +16,6 @@ use Rattle.format.specs.Lookup.{record_word, record_row_at, has_row}
 use Rattle.layout.proofs.Back.{rows_back, table_zero, has_row_lem, record_back}
 use Rattle.records_row.specs.Row.{struct_of, struct_words, zero_row, row_at}
 
--- how many bytes the struct has, four for each word
-abbrev pub row_bytes : ℕ
-row_bytes = record_width * 4
-
 -- The struct of a whole row has its words, all of them and in order.
 words_at : (t : List ℕ) (i : ℕ) → i < length t / record_width → struct_words (row_at t i) ≡ rows_from (record_word t i) 0 record_width
 unfolding row_at rows_from

@@ -1,10 +1,10 @@
 -- `line::line_at` meets its contract. The loop's invariant: the halving from here ends where the whole one does; f bounds its turns.
 -- Assumes nothing.
-use mathlib.Core.Path.{◌≡◌, sym, ap, ◌∙◌}
-use Prim.Native.Nat.{ℕ, ◌+◌, ◌-◌, ◌/◌, ◌≤◌}
+use mathlib.Core.Path.{sym, ap, ◌∙◌}
+use Prim.Native.Nat.{◌+◌, ◌-◌, ◌/◌}
 use native.Mathlib.Omega.{arith}
 use lib.ListN.{length}
-use Rattle.format.specs.Line.{halve, line_before, line_at, map_of}
+use Rattle.format.specs.Line.{line_before, line_at, map_of}
 use Rattle.format.proofs.RowsFrom.{map_length, map_entry_lem}
 use Rattle.line.proofs.Halving.{halve_up, halve_down, halve_done, line_before_lem}
 use Rattle.line.proofs.line_at.Goals as goal
