@@ -13,9 +13,12 @@ use std::fs;
 use std::path::{Path, PathBuf};
 use std::process::Command;
 
+/// The folder of the crates.
+const CRATES: &str = "crates";
+
 /// What goes into the program and is kept by git, from the top of the repository.
 const SOURCES: [&str; 7] = [
-    "crates",
+    CRATES,
     "crates.txt",
     "host/Cargo.toml",
     "host/blotheath/Cargo.toml",
@@ -68,8 +71,11 @@ fn link(top: &Path) -> Option<Known> {
 
 /// The commit of the sources, marked where they differ from it; empty where the repository is not kept by git.
 fn commit(top: &Path) -> String {
-    for source in SOURCES {
+    for source in SOURCES.iter().filter(|source| **source != CRATES) {
         println!("cargo::rerun-if-changed={}", top.join(source).display());
+    }
+    for part in parts_of_crates(&top.join(CRATES)) {
+        println!("cargo::rerun-if-changed={}", part.display());
     }
     // The log of HEAD grows with each commit and each checkout.
     let log = git(top, &["rev-parse", "--git-path", "logs/HEAD"]).map(|log| top.join(log));
@@ -84,6 +90,20 @@ fn commit(top: &Path) -> String {
         true => commit,
         false => commit + "-changed",
     }
+}
+
+/// What stands in the crates' folders but `out`, which rt writes.
+fn parts_of_crates(crates: &Path) -> Vec<PathBuf> {
+    let within = |folder: &Path| {
+        let entries = fs::read_dir(folder).into_iter().flatten();
+        entries.map_while(|entry| Some(entry.ok()?.path()))
+    };
+    let mut parts: Vec<PathBuf> = within(crates)
+        .flat_map(|folder| within(&folder).collect::<Vec<_>>())
+        .filter(|part| part.file_name().is_some_and(|name| name != "out"))
+        .collect();
+    parts.sort();
+    parts
 }
 
 /// What git says of this repository; none where it keeps none or fails.
