@@ -37,6 +37,7 @@ fn le64_to_u64(le64: [u8; 8]) -> u64
 }
 
 // The float that a pattern of 64 bits is, a NaN's too.
+#[tactic(auto, using(crate::proofs::Nan::nan_above, crate::proofs::Nan::no_nan))]
 fn to_f64(n: u64) -> f64
     ensures { result ≡ of_bits binary64 n }
 {
