@@ -334,7 +334,8 @@ unfolding table row operands opcode rest last_of jump target fetch_as fetch pack
     pool_entry counted head_at body_at record_at records_from irep_section walk visits no_zero plain_text name_entry record_names lvar_section file_head map_entry
     map_lines files_from debug_record debug_content debug_section packed_entry end_section section_at sections file_refusal file_reading fits ending loading_within load sized
     end_alone lent two_rows node_in unvisited alone family oval childless edited_a file_d lent_pool constant_d file_m two_m none_m visited zero_inside record_in row_in bytes_in
-    constant_at constant_of pool rising layout span child_of nodes_from reach lands stray readable below all_below operands_below range_below bounded comments form follows first_at first_of permits permitted_at
+    constant_at constant_of pool
+    rising layout span child_of nodes_from reach lands stray readable below all_below operands_below range_below bounded comments form follows first_at first_of permits permitted_at
     exam16 exam32 exam1718 exam19 exam20 examine_record examine_all examine_pattern passing examining examine child_operand move one_step run_from choices_from standing
     laid_frames frame_table following follow examine_single passing_single examining_single examine_one
 samples = record {
