@@ -24,6 +24,7 @@ use boundary_steps::{BlotheathFetched, BlotheathLine};
 use line::Pos;
 use records_row::Record;
 use rite::Allowance;
+use tables::Tables;
 
 // The instruction at the start of these bytes.
 #[unsafe(no_mangle)]
@@ -136,6 +137,8 @@ pub extern "C" fn blotheath_line(
     boundary_lookups::looked_line(lookup::line(records, lines, rec, Pos(offset)))
 }
 
+// C lends nine tables and two numbers in each of the calls below, so that each builds its Tables and Allowance: a function that does would take the same eleven.
+
 // Loads a file of at most so many bytes and records into nine lent tables.
 #[unsafe(no_mangle)]
 pub extern "C" fn blotheath_load(
@@ -158,8 +161,7 @@ pub extern "C" fn blotheath_load(
         (words records.old handlers.old pool.old symbols.old strings.old names.old
         filenames.old files.old lines.old)) (allowance max_bytes max_records)) }
 {
-    boundary::loaded(rite::load(
-        file,
+    let mut t = Tables {
         records,
         handlers,
         pool,
@@ -169,11 +171,12 @@ pub extern "C" fn blotheath_load(
         filenames,
         files,
         lines,
-        Allowance {
-            bytes: max_bytes,
-            records: max_records,
-        },
-    ))
+    };
+    let a = Allowance {
+        bytes: max_bytes,
+        records: max_records,
+    };
+    boundary::loaded(rite::load(file, &mut t, a))
 }
 
 // Loads a file as `blotheath_load` does, and fills lent record rows from the words of the record table.
@@ -242,8 +245,7 @@ pub extern "C" fn blotheath_examine(
         filenames.old files.old lines.old)) (allowance max_bytes max_records)
         permitted.now) }
 {
-    boundary::loaded(examine::examine(
-        file,
+    let mut t = Tables {
         records,
         handlers,
         pool,
@@ -253,12 +255,12 @@ pub extern "C" fn blotheath_examine(
         filenames,
         files,
         lines,
-        Allowance {
-            bytes: max_bytes,
-            records: max_records,
-        },
-        permitted,
-    ))
+    };
+    let a = Allowance {
+        bytes: max_bytes,
+        records: max_records,
+    };
+    boundary::loaded(examine::examine(file, &mut t, a, permitted))
 }
 
 // Examines record `rec` of such a file by itself.
@@ -286,8 +288,7 @@ pub extern "C" fn blotheath_examine_record(
         filenames.old files.old lines.old)) (allowance max_bytes max_records)
         permitted.now rec) }
 {
-    boundary::loaded(examine::examine_record(
-        file,
+    let mut t = Tables {
         records,
         handlers,
         pool,
@@ -297,13 +298,12 @@ pub extern "C" fn blotheath_examine_record(
         filenames,
         files,
         lines,
-        Allowance {
-            bytes: max_bytes,
-            records: max_records,
-        },
-        permitted,
-        rec,
-    ))
+    };
+    let a = Allowance {
+        bytes: max_bytes,
+        records: max_records,
+    };
+    boundary::loaded(examine::examine_record(file, &mut t, a, permitted, rec))
 }
 
 // Follows the run of a file of at most so many bytes and records, and of permitted opcodes alone, along choice bytes, over nine lent tables and a frame
@@ -333,8 +333,7 @@ pub extern "C" fn blotheath_follow(
         filenames.old files.old lines.old)) (allowance max_bytes max_records)
         permitted.now (length frames.old) choices.now) }
 {
-    boundary::followed(follow::follow(
-        file,
+    let mut t = Tables {
         records,
         handlers,
         pool,
@@ -344,12 +343,10 @@ pub extern "C" fn blotheath_follow(
         filenames,
         files,
         lines,
-        frames,
-        choices,
-        Allowance {
-            bytes: max_bytes,
-            records: max_records,
-        },
-        permitted,
-    ))
+    };
+    let a = Allowance {
+        bytes: max_bytes,
+        records: max_records,
+    };
+    boundary::followed(follow::follow(file, &mut t, frames, choices, a, permitted))
 }

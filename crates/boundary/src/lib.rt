@@ -2,18 +2,20 @@
 // else is 0.
 #![tactic(auto)]
 
-ghost use Rattle.std.specs.Prelude.{◌≡◌};
-ghost use Rattle.rite.specs.Answers as rite;
-ghost use Rattle.run.specs.Answers as run;
-ghost use Rattle.boundary.specs.Structs.{counts_is, loaded_is, followed_is};
+ghost use Rattle.std.specs.Prelude.{◌≡◌, Some};
+ghost use Rattle.refusal.specs.Number.{answer_as};
+ghost use Rattle.rite.specs.Answers.{counts_of};
+ghost use Rattle.run.specs.Answers.{followed_of};
+ghost use Rattle.boundary.specs.Structs.{counts_is, loaded_is, standing_is, followed_is};
 
 use boundary_steps::line_found;
-use rite::{Loaded, Used};
-use run::Followed;
+use refusal::Refusal;
+use rite::Used;
+use run::Standing;
 
 // A load's or an examination's answer: the rows used of each table, and the visits that the LVAR walk made.
 #[repr(C)]
-#[derive(Drop)]
+#[derive(Default, Drop)]
 pub struct BlotheathLoaded {
     pub refusal: u32,
     pub records: u32,
@@ -31,7 +33,7 @@ pub struct BlotheathLoaded {
 // Where a run stands: 1 where it is finished, and then no frames; else the top frame's record and offset, its line as in BlotheathLine, and
 // the number of frames.
 #[repr(C)]
-#[derive(Drop)]
+#[derive(Default, Drop)]
 pub struct BlotheathFollowed {
     pub refusal: u32,
     pub finished: u32,
@@ -42,83 +44,66 @@ pub struct BlotheathFollowed {
     pub frames: u32,
 }
 
-fn counts(u: Used) -> BlotheathLoaded
-    ensures { result ≡ counts_is (rite.counts_of u) }
-{
-    BlotheathLoaded {
-        refusal: 0,
-        records: u.records,
-        handlers: u.handlers,
-        pool: u.pool,
-        symbols: u.symbols,
-        strings: u.strings,
-        names: u.names,
-        filenames: u.filenames,
-        files: u.files,
-        lines: u.lines,
-        visits: u.visits,
-    }
-}
+impl From<Used> for BlotheathLoaded {
+    ghost from_gives = { λ u r. r ≡ counts_is (counts_of u) };
 
-pub fn loaded(l: Loaded) -> BlotheathLoaded
-    ensures { result ≡ loaded_is (rite.answer_of l) }
-{
-    match l {
-        Loaded::Rows(u) => counts(u),
-        Loaded::Refused(n) => BlotheathLoaded {
-            refusal: n as u32,
-            records: 0,
-            handlers: 0,
-            pool: 0,
-            symbols: 0,
-            strings: 0,
-            names: 0,
-            filenames: 0,
-            files: 0,
-            lines: 0,
-            visits: 0,
-        },
-    }
-}
-
-pub fn followed(a: Followed) -> BlotheathFollowed
-    ensures { result ≡ followed_is (run.followed_of a) }
-{
-    match a {
-        Followed::Finished => BlotheathFollowed {
+    fn from(u: Used) -> BlotheathLoaded {
+        BlotheathLoaded {
             refusal: 0,
-            finished: 1,
-            record: 0,
-            offset: 0,
-            found: 0,
-            line: 0,
-            frames: 0,
-        },
-        Followed::Stands {
-            record,
-            offset,
-            line,
-            frames,
-        } => {
-            let l = line_found(line);
-            BlotheathFollowed {
-                refusal: 0,
-                finished: 0,
-                record,
-                offset,
-                found: l.found,
-                line: l.line,
-                frames,
-            }
+            records: u.records,
+            handlers: u.handlers,
+            pool: u.pool,
+            symbols: u.symbols,
+            strings: u.strings,
+            names: u.names,
+            filenames: u.filenames,
+            files: u.files,
+            lines: u.lines,
+            visits: u.visits,
         }
-        Followed::Refused(n) => BlotheathFollowed {
-            refusal: n as u32,
-            finished: 0,
-            record: 0,
-            offset: 0,
-            found: 0,
-            line: 0,
-            frames: 0,
+    }
+}
+
+pub fn loaded(answer: Result<Used, Refusal>) -> BlotheathLoaded
+    ensures { result ≡ loaded_is (answer_as counts_of answer) }
+{
+    match answer {
+        Ok(u) => u.into(),
+        Err(e) => BlotheathLoaded {
+            refusal: e.into(),
+            ..BlotheathLoaded::default()
+        },
+    }
+}
+
+impl From<Standing> for BlotheathFollowed {
+    ghost from_gives = { λ s r. r ≡ standing_is (followed_of (Some s)) };
+
+    fn from(s: Standing) -> BlotheathFollowed {
+        let line = line_found(s.line);
+        BlotheathFollowed {
+            record: s.record,
+            offset: s.offset,
+            found: line.found,
+            line: line.line,
+            frames: s.frames,
+            ..BlotheathFollowed::default()
+        }
+    }
+}
+
+pub fn followed(answer: Result<Option<Standing>, Refusal>) -> BlotheathFollowed
+    ensures { result ≡ followed_is (answer_as followed_of answer) }
+{
+    match answer {
+        Ok(Some(s)) => s.into(),
+        Ok(None) => BlotheathFollowed {
+            finished: 1,
+            ..BlotheathFollowed::default()
+        },
+        Err(e) => BlotheathFollowed {
+            refusal: e.into(),
+            ..BlotheathFollowed::default()
         },
     }
 }

@@ -2,18 +2,22 @@
 #![tactic(auto)]
 
 ghost use Rattle.std.specs.Prelude.{◌≡◌};
-ghost use Rattle.constant.specs.Answers as constant;
-ghost use Rattle.ranges.specs.Answers as ranges;
-ghost use Rattle.entries.specs.Answers as entries;
-ghost use Rattle.entries_debug.specs.Answers as debug;
-ghost use Rattle.boundary_lookups.specs.Structs.{text_is, handler_is, value_is, constant_is, name_is, debug_file_is, looked_line_is};
+ghost use Rattle.refusal.specs.Number.{answer_as};
+ghost use Rattle.line.specs.Answers.{line_of};
+ghost use Rattle.constant.specs.Answers.{value_of};
+ghost use Rattle.ranges.specs.Answers.{text_of};
+ghost use Rattle.entries.specs.Answers.{handler_of, name_of};
+ghost use Rattle.entries_debug.specs.Answers.{debug_file_of};
+ghost use Rattle.boundary_lookups.specs.Structs.{text_is, handler_is, constant_is, name_is, debug_file_is, looked_line_is};
 
-use constant::{PoolAnswer, PoolValue};
-use lookup::{DebugFileAnswer, HandlerAnswer, LineAnswer, NameAnswer, TextAnswer};
+use constant::PoolValue;
+use line::Line;
+use lookup::{DebugFile, Handler, Text};
+use refusal::Refusal;
 
 // The place and length of bytes in the file.
 #[repr(C)]
-#[derive(Drop)]
+#[derive(Default, Drop)]
 pub struct BlotheathText {
     pub refusal: u32,
     pub place: u32,
@@ -22,7 +26,7 @@ pub struct BlotheathText {
 
 // A handler's four fields.
 #[repr(C)]
-#[derive(Drop)]
+#[derive(Default, Drop)]
 pub struct BlotheathHandler {
     pub refusal: u32,
     pub kind: u32,
@@ -33,7 +37,7 @@ pub struct BlotheathHandler {
 
 // A constant: kind 0 a text's place and length, 1 a whole number, 2 a float, 3 a big integer's place and length; what its kind lacks is 0.
 #[repr(C)]
-#[derive(Drop)]
+#[derive(Default, Drop)]
 pub struct BlotheathConstant {
     pub refusal: u32,
     pub kind: u32,
@@ -45,7 +49,7 @@ pub struct BlotheathConstant {
 
 // A local variable's name: 1 where there is one, else 0; its place and length.
 #[repr(C)]
-#[derive(Drop)]
+#[derive(Default, Drop)]
 pub struct BlotheathName {
     pub refusal: u32,
     pub named: u32,
@@ -55,7 +59,7 @@ pub struct BlotheathName {
 
 // A debug file: its start, its name's place and length, first row and number of its lines.
 #[repr(C)]
-#[derive(Drop)]
+#[derive(Default, Drop)]
 pub struct BlotheathDebugFile {
     pub refusal: u32,
     pub start: u32,
@@ -67,183 +71,129 @@ pub struct BlotheathDebugFile {
 
 // The line of an offset of a record: 1 where there is one, else 0; and its number.
 #[repr(C)]
-#[derive(Drop)]
+#[derive(Default, Drop)]
 pub struct BlotheathLookedLine {
     pub refusal: u32,
     pub found: u32,
     pub line: u32,
 }
 
-pub fn text(a: TextAnswer) -> BlotheathText
-    ensures { result ≡ text_is (ranges.text_of a) }
+pub fn text(a: Result<Text, Refusal>) -> BlotheathText
+    ensures { result ≡ text_is (answer_as text_of a) }
 {
     match a {
-        TextAnswer::At { place, length } => BlotheathText {
-            refusal: 0,
+        Ok(Text { place, length }) => BlotheathText {
             place,
             length,
+            ..BlotheathText::default()
         },
-        TextAnswer::Refused(n) => BlotheathText {
-            refusal: n as u32,
-            place: 0,
-            length: 0,
+        Err(e) => BlotheathText {
+            refusal: u32::from(e),
+            ..BlotheathText::default()
         },
     }
 }
 
-pub fn handler(a: HandlerAnswer) -> BlotheathHandler
-    ensures { result ≡ handler_is (entries.handler_of a) }
+pub fn handler(a: Result<Handler, Refusal>) -> BlotheathHandler
+    ensures { result ≡ handler_is (answer_as handler_of a) }
 {
     match a {
-        HandlerAnswer::Row {
-            kind,
-            begin,
-            end,
-            target,
-        } => BlotheathHandler {
-            refusal: 0,
-            kind,
-            begin,
-            end,
-            target,
+        Ok(row) => BlotheathHandler {
+            kind: row.kind,
+            begin: row.begin,
+            end: row.end,
+            target: row.target,
+            ..BlotheathHandler::default()
         },
-        HandlerAnswer::Refused(n) => BlotheathHandler {
-            refusal: n as u32,
-            kind: 0,
-            begin: 0,
-            end: 0,
-            target: 0,
+        Err(e) => BlotheathHandler {
+            refusal: u32::from(e),
+            ..BlotheathHandler::default()
         },
     }
 }
 
-fn value(v: PoolValue) -> BlotheathConstant
-    ensures { result ≡ value_is (constant.value_of v) }
+pub fn constant(a: Result<PoolValue, Refusal>) -> BlotheathConstant
+    ensures { result ≡ constant_is (answer_as value_of a) }
 {
-    match v {
-        PoolValue::Text { place, length } => BlotheathConstant {
-            refusal: 0,
-            kind: 0,
+    match a {
+        Ok(PoolValue::Text(Text { place, length })) => BlotheathConstant {
             place,
             length,
-            int: 0,
-            float: 0.0,
+            ..BlotheathConstant::default()
         },
-        PoolValue::Int(n) => BlotheathConstant {
-            refusal: 0,
+        Ok(PoolValue::Int(n)) => BlotheathConstant {
             kind: 1,
-            place: 0,
-            length: 0,
             int: n,
-            float: 0.0,
+            ..BlotheathConstant::default()
         },
-        PoolValue::Float(x) => BlotheathConstant {
-            refusal: 0,
+        Ok(PoolValue::Float(x)) => BlotheathConstant {
             kind: 2,
-            place: 0,
-            length: 0,
-            int: 0,
             float: x,
+            ..BlotheathConstant::default()
         },
-        PoolValue::Big { place, length } => BlotheathConstant {
-            refusal: 0,
+        Ok(PoolValue::Big(Text { place, length })) => BlotheathConstant {
             kind: 3,
             place,
             length,
-            int: 0,
-            float: 0.0,
+            ..BlotheathConstant::default()
+        },
+        Err(e) => BlotheathConstant {
+            refusal: u32::from(e),
+            ..BlotheathConstant::default()
         },
     }
 }
 
-pub fn constant(a: PoolAnswer) -> BlotheathConstant
-    ensures { result ≡ constant_is (constant.pool_of a) }
+pub fn name(a: Result<Option<Text>, Refusal>) -> BlotheathName
+    ensures { result ≡ name_is (answer_as name_of a) }
 {
     match a {
-        PoolAnswer::Value(v) => value(v),
-        PoolAnswer::Refused(n) => BlotheathConstant {
-            refusal: n as u32,
-            kind: 0,
-            place: 0,
-            length: 0,
-            int: 0,
-            float: 0.0,
-        },
-    }
-}
-
-pub fn name(a: NameAnswer) -> BlotheathName
-    ensures { result ≡ name_is (entries.name_of a) }
-{
-    match a {
-        NameAnswer::Named { place, length } => BlotheathName {
-            refusal: 0,
+        Ok(Some(Text { place, length })) => BlotheathName {
             named: 1,
             place,
             length,
+            ..BlotheathName::default()
         },
-        NameAnswer::Unnamed => BlotheathName {
-            refusal: 0,
-            named: 0,
-            place: 0,
-            length: 0,
-        },
-        NameAnswer::Refused(n) => BlotheathName {
-            refusal: n as u32,
-            named: 0,
-            place: 0,
-            length: 0,
+        Ok(None) => BlotheathName::default(),
+        Err(e) => BlotheathName {
+            refusal: u32::from(e),
+            ..BlotheathName::default()
         },
     }
 }
 
-pub fn debug_file(a: DebugFileAnswer) -> BlotheathDebugFile
-    ensures { result ≡ debug_file_is (debug.debug_file_of a) }
+pub fn debug_file(a: Result<DebugFile, Refusal>) -> BlotheathDebugFile
+    ensures { result ≡ debug_file_is (answer_as debug_file_of a) }
 {
     match a {
-        DebugFileAnswer::Row {
-            start,
-            place,
-            length,
-            first,
-            number,
-        } => BlotheathDebugFile {
-            refusal: 0,
-            start: start.0,
-            place,
-            length,
-            first,
-            number,
+        Ok(file) => BlotheathDebugFile {
+            start: file.start.0,
+            place: file.name.place,
+            length: file.name.length,
+            first: file.lines.first,
+            number: file.lines.number,
+            ..BlotheathDebugFile::default()
         },
-        DebugFileAnswer::Refused(n) => BlotheathDebugFile {
-            refusal: n as u32,
-            start: 0,
-            place: 0,
-            length: 0,
-            first: 0,
-            number: 0,
+        Err(e) => BlotheathDebugFile {
+            refusal: u32::from(e),
+            ..BlotheathDebugFile::default()
         },
     }
 }
 
-pub fn looked_line(a: LineAnswer) -> BlotheathLookedLine
-    ensures { result ≡ looked_line_is (debug.line_of a) }
+pub fn looked_line(a: Result<Option<Line>, Refusal>) -> BlotheathLookedLine
+    ensures { result ≡ looked_line_is (answer_as line_of a) }
 {
     match a {
-        LineAnswer::At(l) => BlotheathLookedLine {
-            refusal: 0,
+        Ok(Some(Line(line))) => BlotheathLookedLine {
             found: 1,
-            line: l.0,
+            line,
+            ..BlotheathLookedLine::default()
         },
-        LineAnswer::Nothing => BlotheathLookedLine {
-            refusal: 0,
-            found: 0,
-            line: 0,
-        },
-        LineAnswer::Refused(n) => BlotheathLookedLine {
-            refusal: n as u32,
-            found: 0,
-            line: 0,
+        Ok(None) => BlotheathLookedLine::default(),
+        Err(e) => BlotheathLookedLine {
+            refusal: u32::from(e),
+            ..BlotheathLookedLine::default()
         },
     }
 }

@@ -1,87 +1,38 @@
 // Constants: what the bytes of a pool row are, by its kind.
 #![tactic(auto)]
 
-ghost use Rattle.std.specs.Prelude.{◌≡◌, ◌+◌, ◌≤◌, length};
-ghost use Rattle.format.specs.Bytes.{int32_at, int64_at, float64_at};
-ghost use Rattle.format.specs.Rows.{text_row};
+ghost use Rattle.std.specs.Prelude.{◌≡◌};
 ghost use Rattle.format.specs.Lookup as format;
-ghost use Rattle.constant.specs.Answers.{pool_row, pool_of};
+ghost use Rattle.refusal.specs.Number.{answer_as};
+ghost use Rattle.constant.specs.Answers.{pool_row, value_of};
 
-use number::{Int32, Int64};
-use number_float::Float64;
+use number::{i32_at, i64_at};
+use number_float::f64_at;
+use ranges::{Text, bytes_in};
+use refusal::Refusal;
 
 // A constant by its kind: texts and big integers are bytes of the file.
-#[derive(Drop)]
+#[derive(Clone, Copy)]
 pub enum PoolValue {
-    Text { place: u32, length: u32 },
+    Text(Text),
     Int(i64),
     Float(f64),
-    Big { place: u32, length: u32 },
+    Big(Text),
 }
 
-// A constant, or the refusal's number.
-#[derive(Drop)]
-pub enum PoolAnswer {
-    Value(PoolValue),
-    Refused(u8),
-}
-
-// A whole number of four bytes, high byte first.
-fn int32(f: &[u8], place: u32, len: u32) -> PoolAnswer
-    requires { place + len ≤ length f.now }
-    ensures { pool_of result ≡ format.of_bytes 4 (text_row place len) (format.int (int32_at f.now place)) }
+// The constant that a pool row's words say. The kind stays a number: it is a word of the lent pool table, and any has an answer here.
+#[tactic(auto, unfolding(format::specs::Lookup::constant_of, format::specs::Lookup::bytes_in, format::specs::Lookup::constant_at))]
+pub fn constant_of(f: &[u8], kind: u32, place: u32, length: u32) -> Result<PoolValue, Refusal>
+    ensures { answer_as value_of result ≡ format.constant_of f.now (pool_row kind place length) }
 {
-    if len != 4 {
-        return PoolAnswer::Refused(22);
-    }
-    match number::i32_at(f, place as usize) {
-        Int32::Refused(e) => PoolAnswer::Refused(e),
-        Int32::Value(n) => PoolAnswer::Value(PoolValue::Int(n as i64)),
-    }
-}
-
-// A whole number of eight bytes, high byte first.
-fn int64(f: &[u8], place: u32, len: u32) -> PoolAnswer
-    requires { place + len ≤ length f.now }
-    ensures { pool_of result ≡ format.of_bytes 8 (text_row place len) (format.int (int64_at f.now place)) }
-{
-    if len != 8 {
-        return PoolAnswer::Refused(22);
-    }
-    match number::i64_at(f, place as usize) {
-        Int64::Refused(e) => PoolAnswer::Refused(e),
-        Int64::Value(n) => PoolAnswer::Value(PoolValue::Int(n)),
-    }
-}
-
-// A float of eight bytes, low byte first.
-fn float64(f: &[u8], place: u32, len: u32) -> PoolAnswer
-    requires { place + len ≤ length f.now }
-    ensures { pool_of result ≡ format.of_bytes 8 (text_row place len) (format.float (float64_at f.now place)) }
-{
-    if len != 8 {
-        return PoolAnswer::Refused(22);
-    }
-    match number_float::f64_at(f, place as usize) {
-        Float64::Refused(e) => PoolAnswer::Refused(e),
-        Float64::Value(x) => PoolAnswer::Value(PoolValue::Float(x)),
-    }
-}
-
-// The constant that a pool row's words say.
-pub fn constant_of(f: &[u8], kind: u32, place: u32, len: u32) -> PoolAnswer
-    ensures { pool_of result ≡ format.constant_of f.now (pool_row kind place len) }
-{
-    if f.len() < (place as usize) + (len as usize) {
-        return PoolAnswer::Refused(22);
-    }
-    match kind {
-        0 => PoolAnswer::Value(PoolValue::Text { place, length: len }),
-        1 => int32(f, place, len),
-        2 => PoolAnswer::Value(PoolValue::Text { place, length: len }),
-        3 => int64(f, place, len),
-        5 => float64(f, place, len),
-        7 => PoolAnswer::Value(PoolValue::Big { place, length: len }),
-        _ => PoolAnswer::Refused(22),
+    let bytes = bytes_in(f, place, length)?;
+    let at = place as usize;
+    match (kind, length) {
+        (0 | 2, _) => Ok(PoolValue::Text(bytes)),
+        (1, 4) => Ok(PoolValue::Int(i64::from(i32_at(f, at)?))),
+        (3, 8) => Ok(PoolValue::Int(i64_at(f, at)?)),
+        (5, 8) => Ok(PoolValue::Float(f64_at(f, at)?)),
+        (7, _) => Ok(PoolValue::Big(bytes)),
+        _ => Err(Refusal::Missing),
     }
 }

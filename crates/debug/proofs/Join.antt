@@ -20,15 +20,14 @@ use Rattle.format.specs.Packed.{keeps}
 use Rattle.format.specs.Debug.{FileHead, file_head, map_entry, after, goes_on, map_lines, file_lines, File, files_from, debug_record, Debug, debug_content, debug_section}
 use Rattle.format.specs.Load.{joined, map_of_files, start, record_rows, file_rows, Nine}
 use Rattle.format.proofs.Places.{file_rows_length, joined_append, joined_snoc, gathered_append, record_word_lem, files_put}
-use Rattle.rows.specs.declared.Rows.TheVariants as rows
-use Rattle.rows.specs.Table.{Out, out, row_count, put_of, times}
-use Rattle.rows.specs.Rows.{string_of}
+use Rattle.rows.specs.declared.Row.TheVariants.{Text}
+use Rattle.rows.specs.Table.{Out, out, next, row_count, put_of, times}
+use Rattle.rows.specs.Rows.{row_of}
 use Rattle.rows.specs.Walk.{Run, go, stop, bind, walk}
-use Rattle.rows.proofs.Join.{Ran, RowsRan, ran_bad, put_there, put_full, length_table, times_ran, string_agrees}
-use Rattle.debug.specs.declared.Debug.TheVariants as debug
-use Rattle.linemap.specs.Lines.{on_run, first_before, push_of, line_of, lines_of}
+use Rattle.rows.proofs.Join.{Ran, RowsRan, ran_bad, put_there, put_full, length_table, times_ran}
+use Rattle.linemap.specs.Lines.{on_run, first_before, push_of, entry_put, lines_of}
 use Rattle.debug.specs.Records.{Tabs, tabs, used_rows, Spot, spot, Filed, filed, Held, held, State, state, body_of, file_of, files_of, put_ranges, step_of, kids_of, used_up}
-use Rattle.debug.specs.Section.{Tables, tables, Filled, filled, Walked, walked_of, content_of, debug_of}
+use Rattle.debug.specs.Section.{Tables, tables, Filled, filled, counts, Walked, walked_of, content_of, debug_of}
 
 -- the lines of a file, in a table of m words
 module _ (s : List ℕ) (kind end m : ℕ) where
@@ -37,7 +36,7 @@ module _ (s : List ℕ) (kind end m : ℕ) where
 
   lines_ran : (n : ℕ) (e : LineRow) (last : Option ℕ) (at : ℕ) (rs : List LineRow) → length rs ≤ row_count m 2
       → LinesRan rs (map_lines s kind end n e last at) (lines_of s kind end n e last at (length rs) (table_of line_words m rs))
-  unfolding lines_of line_of push_of map_lines
+  unfolding lines_of entry_put push_of map_lines
   lines_ran zero e last at rs h = Ran.went at refl (rw append-nil h) (rw append-nil)
   lines_ran (suc n) e last at rs h = by_place (goes_on kind end at) refl (lines_ran n)
     where
@@ -122,10 +121,10 @@ module _ (s : List ℕ) (names mf ml : ℕ) where
     body = body_of s h (here 0 fs).used (here 0 fs).tabs
 
     abbrev FileRan : Type 0
-    FileRan = Ran lines.end (Room mf ml (fs ++ file ∷ [])) (λ at. body ≡ go (filed h.start (here at (fs ++ file ∷ [])))) (λ k. (t : Tabs) × (body ≡ stop k t))
+    FileRan = Ran lines.end (Room mf ml (fs ++ file ∷ [])) (λ at. body ≡ go (filed (some h.start) (here at (fs ++ file ∷ [])))) (λ k. (t : Tabs) × (body ≡ stop k t))
 
     put_file : (at : ℕ) → put_of at (length fs) (table_of file_words mf (file_rows 0 fs)) (file_words (file_row 0 fs file))
-        ≡ out (rows.Next at (length (fs ++ file ∷ []))) (table_of file_words mf (file_rows 0 (fs ++ file ∷ [])))
+        ≡ out (next at (length (fs ++ file ∷ []))) (table_of file_words mf (file_rows 0 (fs ++ file ∷ [])))
     put_file at =
         let n = file_rows_length 0 fs in
         let l : length (file_rows 0 fs ++ file_row 0 fs file ∷ []) ≡ length (fs ++ file ∷ []) = rw (length-append, length-append, n) in
@@ -151,16 +150,16 @@ module _ (s : List ℕ) (names mf ml : ℕ) where
   abbrev FilesRan : List File → Read File → Run Spot Tabs → Type 0
   FilesRan fs r o = Ran r.end (Room mf ml (fs ++ r.rows)) (λ at. o ≡ go (here at (fs ++ r.rows))) (λ k. (t : Tabs) × (o ≡ stop k t))
 
-  files_ran : (n : ℕ) (last : Option ℕ) (at : ℕ) (fs : List File) → Room mf ml fs → FilesRan fs (files_from s names n last at) (files_of s names n last (here at fs))
+  files_ran : (n : ℕ) (last : Option ℕ) (at : ℕ) (fs : List File) → Room mf ml fs → FilesRan fs (files_from s names n last at) (files_of s names n (filed last (here at fs)))
   unfolding files_from files_of file_of
   files_ran zero last at fs room = Ran.went at refl (rw append-nil room) (rw (append-nil fs))
   files_ran (suc n) last at fs room = by_head (file_head s names last at) refl (files_ran n)
     where
       Later : Type 0
-      Later = (last : Option ℕ) (at : ℕ) (fs : List File) → Room mf ml fs → FilesRan fs (files_from s names n last at) (files_of s names n last (here at fs))
+      Later = (last : Option ℕ) (at : ℕ) (fs : List File) → Room mf ml fs → FilesRan fs (files_from s names n last at) (files_of s names n (filed last (here at fs)))
 
       Goal : Type 0
-      Goal = FilesRan fs (files_from s names (suc n) last at) (files_of s names (suc n) last (here at fs))
+      Goal = FilesRan fs (files_from s names (suc n) last at) (files_of s names (suc n) (filed last (here at fs)))
 
       whole : length (table_of file_words mf (file_rows 0 fs)) ≡ mf
       whole = length_table file_words 4 (λ _. refl) (omega arith) mf (file_rows 0 fs) (omega (arith, file_rows_length 0 fs, room.files))
@@ -215,7 +214,7 @@ module _ (s : List ℕ) (names m mf ml : ℕ) (nss : List (List NameRow)) where
     D = files_from s names (u16_at s (at + 4)) none (at + 6)
 
     abbrev F : Run Spot Tabs
-    F = files_of s names (u16_at s (at + 4)) none (held_files mf ml (at + 6) (joined fss))
+    F = files_of s names (u16_at s (at + 4)) (filed none (held_files mf ml (at + 6) (joined fss)))
 
     abbrev Goal : Type 0
     Goal = WalkRan all fss (reading_of (r ∷ rs) (suc pending) at) (run_of (suc (length rs)) (suc pending) st)
@@ -338,13 +337,13 @@ module _ (m : Nine) (base : ℕ) (rs : List Rec) (nss : List (List NameRow)) whe
       Ran p.end (AllRoom p.it)
       (λ size.
       o
-      ≡ filled (debug.Next size (length p.it.file_names) (length (joined p.it.files)) (length (map_of_files (joined p.it.files)))) (held_debug p.it))
-      (λ k. o.ans ≡ debug.Refused k)
+      ≡ filled (counts size (length p.it.file_names) (length (joined p.it.files)) (length (map_of_files (joined p.it.files)))) (held_debug p.it))
+      (λ k. o.ans ≡ refused k)
 
   abbrev empty : Debug
   empty = record { file_names = []; files = [] }
 
-  no_rows : (k : ℕ) (t : Tables) → SectionRan (part empty (refused k)) (filled (debug.Refused k) t)
+  no_rows : (k : ℕ) (t : Tables) → SectionRan (part empty (refused k)) (filled (refused k) t)
   no_rows k t = Ran.stop k refl (omega arith, omega arith, omega arith) refl
 
   -- inside the section
@@ -374,13 +373,13 @@ module _ (m : Nine) (base : ℕ) (rs : List Rec) (nss : List (List NameRow)) whe
       walked_all o =
           on_run o
           (λ st.
-          filled (debug.Next (length s) (length S.rows) st.spot.used.files st.spot.used.lines)
+          filled (counts (length s) (length S.rows) st.spot.used.files st.spot.used.lines)
           (tables st.records (table_of text_words m.file_names S.rows) st.spot.tabs.files st.spot.tabs.lines))
-          (λ k h. filled (debug.Refused k) (tables h.records (table_of text_words m.file_names S.rows) h.tabs.files h.tabs.lines))
+          (λ k h. filled (refused k) (tables h.records (table_of text_words m.file_names S.rows) h.tabs.files h.tabs.lines))
 
       -- both sides, once the file names are read and their rows are there
       module _ (a : ℕ) (p : S.end ≡ ok a) (x : length S.rows ≤ row_count m.file_names 2)
-          (d : times (string_of s base) (u16_at s 8) 10 0 (table_of text_words m.file_names []) ≡ out (rows.Next a (length S.rows)) (table_of text_words m.file_names S.rows)) where
+          (d : times (row_of s base Text) (u16_at s 8) 10 0 (table_of text_words m.file_names []) ≡ out (next a (length S.rows)) (table_of text_words m.file_names S.rows)) where
         part_all : P ≡ part (record { file_names = S.rows; files = (W a).rows }) (bytes.bind (W a).end (λ _. ok (length s)))
         unfolding debug_content
         part_all = rw (two, p)
@@ -392,8 +391,8 @@ module _ (m : Nine) (base : ℕ) (rs : List Rec) (nss : List (List NameRow)) whe
             by_run : (o : Run State Held)
                 → let w : Walked =
                 on_run o
-                (λ st. record { ans = debug.Next (length s) (length S.rows) st.spot.used.files st.spot.used.lines; held = held st.records st.spot.tabs })
-                (λ k h. record { ans = debug.Refused k; held = h }) in
+                (λ st. record { ans = counts (length s) (length S.rows) st.spot.used.files st.spot.used.lines; held = held st.records st.spot.tabs })
+                (λ k h. record { ans = refused k; held = h }) in
                 filled w.ans (tables w.held.records (table_of text_words m.file_names S.rows) w.held.tabs.files w.held.tabs.lines) ≡ walked_all o
             by_run (go st) = refl
             by_run (stop k h) = refl
@@ -403,7 +402,7 @@ module _ (m : Nine) (base : ℕ) (rs : List Rec) (nss : List (List NameRow)) whe
         by_walk (Ran.stop k q y (t, g)) = rw (run_all, part_all, q, g) (Ran.stop k refl (x, y.files, y.lines) refl)
         by_walk (Ran.full y (t, g)) = rw (run_all, part_all, g) (Ran.full (λ r. y (record { files = r.1; lines = r.2 })) refl)
 
-      by_names : RowsRan text_words 2 (λ _. refl) (omega arith) m.file_names [] S (times (string_of s base) (u16_at s 8) 10 0 (table_of text_words m.file_names [])) → SectionRan P O
+      by_names : RowsRan text_words 2 (λ _. refl) (omega arith) m.file_names [] S (times (row_of s base Text) (u16_at s 8) 10 0 (table_of text_words m.file_names [])) → SectionRan P O
       unfolding content_of debug_content
       by_names (Ran.went a p x d) =
           by_walk a p x d (walk_ran s (u16_at s 8) m.records m.files m.lines nss rs [] [] 1 a refl (record { files = omega arith; lines = omega arith }))
@@ -412,7 +411,7 @@ module _ (m : Nine) (base : ℕ) (rs : List Rec) (nss : List (List NameRow)) whe
 
       names_ran : SectionRan P O
       names_ran =
-          by_names (times_ran text_words 2 (λ _. refl) (omega arith) m.file_names (string_of s base) (plain_text s base) (string_agrees s base) (u16_at s 8) 10 [] (omega arith))
+          by_names (times_ran text_words 2 (λ _. refl) (omega arith) m.file_names (row_of s base Text) (plain_text s base) (λ _ _ _. refl) (u16_at s 8) 10 [] (omega arith))
 
     content_ran : (b : Bool) → has s 8 2 ≡ b → SectionRan P O
     content_ran true h = names_ran h

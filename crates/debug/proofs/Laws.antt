@@ -5,48 +5,36 @@ use native.Mathlib.Omega.{arith}
 use mathlib.Core.Path.{◌≡◌, refl, sym, ap}
 use mathlib.Core.Bool.{Bool, true, false, ◌||◌, cond}
 use mathlib.Core.List.{List}
-use mathlib.Core.Option.{Option, none, some}
+use mathlib.Core.Option.{none}
 use lib.Dec.{leb, eqb}
 use lib.ListN.{length}
 use borrow.Author.Tests.{leb-true, leb-false}
 use Rattle.format.specs.Bytes.{has, u16_at, u32_at}
 use Rattle.format.specs.Rows.{record_width}
-use Rattle.line.specs.declared.Pos.{Pos}
 use Rattle.rows.specs.Walk.{Run, go, stop}
 use Rattle.rows.specs.Walk as generic
-use Rattle.rows.proofs.Walk.{same_go, stop_go, spent_walk, walk_past, walk_one, walk_child, walk_done, walk_rec}
-use Rattle.debug.specs.declared.Used.{Used}
-use Rattle.debug.specs.declared.OneFile.{OneFile}
-use Rattle.debug.specs.declared.OneFile.TheVariants as file
+use Rattle.rows.proofs.Walk.{same_go, stop_go, spent_walk, walk_past, walk_one, walk_began, walk_child, walk_done, walk_rec}
 use Rattle.linemap.specs.Lines.{on_run}
 use Rattle.linemap.proofs.Laws.{nothing}
-use Rattle.debug.specs.Records.{Tabs, tabs, Spot, spot, Held, held, State, state, file_run, file_of, files_of, put_ranges, step_of, kids_of, used_up, reads_nothing, walk_of}
+use Rattle.debug.specs.Records.{Tabs, Spot, spot, Held, held, State, state, Filed, filed, file_of, files_of, put_ranges, step_of, kids_of, used_up, reads_nothing, walk_of}
 
--- the files of a record: r is what the next file answers
+-- the files of a record: what the next file answers
 module _ (s : List ℕ) (names : ℕ) where
-  pub files_go : (n : ℕ) (last : Option ℕ) (sp : Spot) (r : OneFile) (fs ls : List ℕ) (start : Pos) (at' : ℕ) (u : Used) → 0 < n
-      → file_run r fs ls ≡ file_of s names last sp → r ≡ file.Next start at' u
-      → files_of s names (n - 1) (some start.0) (spot at' u (tabs fs ls)) ≡ files_of s names n last sp
+  pub files_go : (n : ℕ) (f g : Filed) → 0 < n → go g ≡ file_of s names f → files_of s names (n - 1) g ≡ files_of s names n f
   unfolding files_of
-  files_go zero last sp r fs ls start at' u p h q = elim (nothing p) [ ]
-  files_go (suc n) last sp r fs ls start at' u p h q = let k : suc n - 1 ≡ n = omega arith in rw (k, ← h, q)
+  files_go zero f g p h = elim (nothing p) [ ]
+  files_go (suc n) f g p h = let k : suc n - 1 ≡ n = omega arith in rw (k, ← h)
 
-  pub files_no : (n : ℕ) (last : Option ℕ) (sp : Spot) (r : OneFile) (fs ls : List ℕ) (k : ℕ) → 0 < n
-      → file_run r fs ls ≡ file_of s names last sp → r ≡ file.Refused k → stop k (tabs fs ls) ≡ files_of s names n last sp
+  pub files_no : (n : ℕ) (f : Filed) (k : ℕ) (t : Tabs) → 0 < n → stop k t ≡ file_of s names f → stop k t ≡ files_of s names n f
   unfolding files_of
-  files_no zero last sp r fs ls k p h q = elim (nothing p) [ ]
-  files_no (suc n) last sp r fs ls k p h q = rw (← h, q)
-
-  pub files_done : (n : ℕ) (last : Option ℕ) (sp : Spot) → n ≤ 0 → ◌≡◌ {A = Run Spot Tabs} (go sp) (files_of s names n last sp)
-  unfolding files_of
-  files_done zero last sp p = refl
-  files_done (suc n) last sp p = elim (nothing p) [ ]
+  files_no zero f k t p h = elim (nothing p) [ ]
+  files_no (suc n) f k t p h = rw (← h)
 
 -- a step takes the next record
 pub step_next : (s : List ℕ) (names : ℕ) (st st' : State) → step_of s names st ≡ go st' → st'.rec ≡ st.rec + 1
 unfolding step_of
 step_next s names st st' e =
-    by_files (has s st.spot.at 6) (files_of s names (u16_at s (st.spot.at + 4)) none (spot (st.spot.at + 6) st.spot.used st.spot.tabs)) e
+    by_files (has s st.spot.at 6) (files_of s names (u16_at s (st.spot.at + 4)) (filed none (spot (st.spot.at + 6) st.spot.used st.spot.tabs))) e
   where
     by_size : (q : Bool) (rs : List ℕ) (sp : Spot) (h : Held) → cond q (go (state (st.rec + 1) rs sp)) (stop 12 h) ≡ go st' → st'.rec ≡ st.rec + 1
     by_size true rs sp h e = ap (λ (x : State). x.rec) (sym (same_go _ st' e))
@@ -94,6 +82,12 @@ module _ (s : List ℕ) (names count : ℕ) where
       → walk_of s names count 1 st ≡ generic.bind o (λ st'. walk_of s names count (kids_of st) st')
   visit_one st o h e =
       walk_one (step_of s names) kids_of (used_up s) (λ x. x.rec) (step_next s names) count st o (in_records st.spot.at st.rec h) (in_section st.spot.at st.rec h) e
+
+  -- the record's own files are read: what is left of the walk is the visits of its children
+  pub visit_began : (st st' : State) → reads_nothing s st.spot.at count st.rec ≡ false → go st' ≡ step_of s names st
+      → (st'.rec ≡ st.rec + 1) × (walk_of s names count 1 st ≡ walk_of s names count (kids_of st) st')
+  visit_began st st' h e =
+      walk_began (step_of s names) kids_of (used_up s) (λ x. x.rec) (step_next s names) count st st' (in_records st.spot.at st.rec h) (in_section st.spot.at st.rec h) e
 
   pub visit_child : (n k : ℕ) (st : State) (o : Run State Held) → k < n → o ≡ walk_of s names count 1 st
       → walk_of s names count (n - k) st ≡ generic.bind o (λ st'. walk_of s names count (n - (k + 1)) st')

@@ -1,18 +1,15 @@
--- What each case of the answers on handlers and names stands for: the paper's refusal number, or the values.
+-- A handler, and a name if there is one, as the definitions have them.
 -- Assumes nothing.
-use Rattle.std.proofs.Math.Option.{Option, none, some}
-use Rattle.format.specs.Bytes.{Answer, ok, refused}
-use Rattle.format.specs.Rows.{HandlerRow, TextRow, text_row}
-use Rattle.entries.specs.declared.HandlerAnswer.{HandlerAnswer}
-use Rattle.entries.specs.declared.HandlerAnswer.TheVariants as handler
-use Rattle.entries.specs.declared.NameAnswer.{NameAnswer}
-use Rattle.entries.specs.declared.NameAnswer.TheVariants as name
+use Rattle.std.specs.Prelude.{Option, Some, None}
+use Rattle.std.proofs.Math.Option as math
+use Rattle.format.specs.Rows.{HandlerRow, TextRow}
+use Rattle.ranges.specs.declared.Text.{Text}
+use Rattle.ranges.specs.Answers.{text_of}
+use Rattle.entries.specs.declared.Handler.{Handler}
 
-abbrev pub handler_of : HandlerAnswer → Answer HandlerRow
-handler_of (handler.Row kind begin end target) = ok (record { kind = kind; begin = begin; end = end; target = target })
-handler_of (handler.Refused e) = refused e
+abbrev pub handler_of : Handler → HandlerRow
+handler_of h = record { kind = h.kind; begin = h.begin; end = h.end; target = h.target }
 
-abbrev pub name_of : NameAnswer → Answer (Option TextRow)
-name_of (name.Named place length) = ok (some (text_row place length))
-name_of name.Unnamed = ok none
-name_of (name.Refused e) = refused e
+abbrev pub name_of : Option Text → math.Option TextRow
+name_of (Some t) = math.some (text_of t)
+name_of None = math.none

@@ -2,41 +2,31 @@
 #![tactic(auto)]
 
 ghost use Rattle.std.specs.Prelude.{◌≡◌, ◌/◌, ◌<◌, length};
-ghost use Rattle.format.specs.Bytes.{ok};
 ghost use Rattle.format.specs.Lookup as format;
-ghost use Rattle.constant.specs.Answers.{pool_of};
+ghost use Rattle.refusal.specs.Number.{answer_as};
+ghost use Rattle.constant.specs.Answers.{value_of};
 ghost use Rattle.entries.specs.Answers.{handler_of, name_of};
 
-use constant::{PoolAnswer, constant_of};
-use ranges::{TextAnswer, text_in};
+use constant::{PoolValue, constant_of};
+use ranges::{Text, text_in};
+use refusal::Refusal;
 
-// A handler's fields, or the refusal's number.
-#[derive(Drop)]
-pub enum HandlerAnswer {
-    Row {
-        kind: u32,
-        begin: u32,
-        end: u32,
-        target: u32,
-    },
-    Refused(u8),
+// A handler's four fields.
+#[derive(Clone, Copy)]
+pub struct Handler {
+    pub kind: u32,
+    pub begin: u32,
+    pub end: u32,
+    pub target: u32,
 }
 
-// A local variable's name, if it has one, or the refusal's number.
-#[derive(Drop)]
-pub enum NameAnswer {
-    Named { place: u32, length: u32 },
-    Unnamed,
-    Refused(u8),
-}
-
-// Row i of the handler table.
-pub fn handler_at(handlers: &[u32], i: usize) -> HandlerAnswer
+// The handler that row i of the handler table says.
+pub fn handler_at(handlers: &[u32], i: usize) -> Handler
     requires { i < length handlers.now / 4 }
-    ensures { handler_of result ≡ ok (format.handler_row_at handlers.now i) }
+    ensures { handler_of result ≡ format.handler_row_at handlers.now i }
 {
     let start = i * 4;
-    HandlerAnswer::Row {
+    Handler {
         kind: handlers[start],
         begin: handlers[start + 1],
         end: handlers[start + 2],
@@ -45,23 +35,21 @@ pub fn handler_at(handlers: &[u32], i: usize) -> HandlerAnswer
 }
 
 // The constant that row i of the pool table says.
-pub fn constant_at(f: &[u8], pool: &[u32], i: usize) -> PoolAnswer
+pub fn constant_at(f: &[u8], pool: &[u32], i: usize) -> Result<PoolValue, Refusal>
     requires { i < length pool.now / 3 }
-    ensures { pool_of result ≡ format.constant_of f.now (format.pool_row_at pool.now i) }
+    ensures { answer_as value_of result ≡ format.constant_of f.now (format.pool_row_at pool.now i) }
 {
     let start = i * 3;
     constant_of(f, pool[start], pool[start + 1], pool[start + 2])
 }
 
 // The name that a word of the name table says: 65535 is unnamed.
-pub fn name_of(f: &[u8], strings: &[u32], n: u32) -> NameAnswer
-    ensures { name_of result ≡ format.name_of f.now strings.now n }
+#[tactic(auto, unfolding(format::specs::Lookup::name_of))]
+pub fn name_of(f: &[u8], strings: &[u32], n: u32) -> Result<Option<Text>, Refusal>
+    ensures { answer_as name_of result ≡ format.name_of f.now strings.now n }
 {
     if n == 65535 {
-        return NameAnswer::Unnamed;
+        return Ok(None);
     }
-    match text_in(f, strings, n as usize) {
-        TextAnswer::Refused(e) => NameAnswer::Refused(e),
-        TextAnswer::At { place, length } => NameAnswer::Named { place, length },
-    }
+    Ok(Some(text_in(f, strings, n as usize)?))
 }

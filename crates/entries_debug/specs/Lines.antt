@@ -6,5 +6,5 @@ use Rattle.format.specs.Bytes.{Answer, bind}
 use Rattle.format.specs.Rows.{Range}
 use Rattle.format.specs.Lookup.{rows_in, map_in}
 
-unfoldable pub line_in : List ℕ → Range → ℕ → Answer (Option ℕ)
+abbrev pub line_in : List ℕ → Range → ℕ → Answer (Option ℕ)
 line_in lines g p = bind (rows_in 2 lines g) (λ g. map_in lines g p)

@@ -1,17 +1,20 @@
 -- A record's parts are the record, the records of a table are the pattern.
 -- Assumes nothing.
-use Prim.Native.Nat.{ℕ, zero, suc, ◌+◌, ◌-◌, ◌*◌, ◌≤◌, ◌<◌}
+use Prim.Native.Nat.{ℕ, zero, suc, ◌+◌, ◌-◌, ◌*◌, ◌/◌, ◌≤◌, ◌<◌}
+use native.Mathlib.Nat.{zero-add}
 use native.Mathlib.Omega.{arith}
 use mathlib.Core.Path.{◌≡◌, refl, sym, ap, ◌∙◌, fun_ext}
 use mathlib.Core.Bool.{Bool, true, false}
 use mathlib.Core.List.{List, [], ◌∷◌}
 use lib.Dec.{eqb}
-use lib.ListN.{take, drop}
+use lib.ListN.{length, get_or, take, drop, length-drop}
+use lib.Seq.{length-take-le, get_or-take, get_or-drop}
+use Rattle.std.specs.List.{slice_range}
 use borrow.Author.Tests.{ne_eqb}
 use Rattle.format.specs.Bytes.{refuse, first}
 use Rattle.format.specs.Insn.{Role, reg, pool, sym as symbol, child, plain, roles, row_at, operands_at}
 use Rattle.format.specs.Registers.{Range, registers_at}
-use Rattle.format.specs.Line.{rows_from}
+use Rattle.format.specs.Line.{rows_from, line_row_at, map_of}
 use Rattle.format.specs.Lookup.{record_word}
 use Rattle.format.specs.Tree.{layout, whole}
 use Rattle.format.specs.Pattern.{Record, rlens}
@@ -19,10 +22,13 @@ use Rattle.format.specs.Exam.{below, all_below, operands_below, range_below, bou
 use Rattle.format.proofs.RowsFrom.{rows_from_map, rows_start, rows_turn, rows_end}
 use Rattle.runs.proofs.Lists.{same_permits}
 use Rattle.flags.specs.Flags.{bare}
-use Rattle.examine_list.specs.Full.{Written}
+use Rattle.examine_list.specs.Full.{bytes_of, Written}
 use Rattle.examine_list.proofs.Full.{written_permits}
-use Rattle.exam.specs.View.{record_at, records_between, pattern_at, rlens_at}
-use Rattle.exam.specs.Part.{examine_part}
+use borrow.Author.Rules.{rules}
+use Rattle.refusal.specs.declared.Refusal.{Refusal}
+use Rattle.refusal.specs.Number.{number}
+use Rattle.exam.specs.View.{RowFits, target_at, targets, entries, record_at, records_between, pattern_at, rlens_at}
+use Rattle.exam.specs.Part.{targets_of, examine_part}
 use Rattle.scan.proofs.First.{first_none, first_some, first_assoc}
 
 -- of a record only the bytes and the counts matter to 17 and 18
@@ -65,15 +71,65 @@ module _ (l : List ℕ) (R : Record) (s : Same l R) where
 abbrev pub limits_at : List ℕ → ℕ → ℕ → ℕ → List ℕ
 limits_at recs r p t = 65536 ∷ record_word recs r 2 ∷ record_word recs r 10 ∷ record_word recs r 12 ∷ record_word recs r 3 ∷ p ∷ t ∷ []
 
-module _ (q f recs hs ls : List ℕ) (r : ℕ) where
+-- rows of a part of a table are rows of the table
+rows_same : {R : Type 0} (f g : ℕ → R) (a b n : ℕ) → ((i : ℕ) → i < n → f (a + i) ≡ g (b + i)) → rows_from f a n ≡ rows_from g b n
+unfolding rows_from
+rows_same f g a b zero e = refl
+rows_same {R} f g a b (suc n) e =
+    let u : a + 0 ≡ a = omega arith in
+    let v : b + 0 ≡ b = omega arith in
+    let x : f a ≡ g b = rw (u, v) at (e 0 (omega arith)) in
+    let y : rows_from f (suc a) n ≡ rows_from g (suc b) n = rows_same f g (suc a) (suc b) n (λ i h.
+    let p : suc a + i ≡ a + suc i = omega arith in
+    let q : suc b + i ≡ b + suc i = omega arith in
+    rw (p, q) (e (suc i) (omega arith))) in
+    rw (x, y)
+
+module _ (t : List ℕ) (s e : ℕ) where
+  slice_length : s ≤ e → e ≤ length t → length (slice_range t s e) ≡ e - s
+  slice_length h l = length-take-le (e - s) (drop s t) (rw length-drop (omega arith))
+
+  slice_word : (k : ℕ) → k < e - s → get_or (slice_range t s e) k 0 ≡ get_or t (s + k) 0
+  slice_word k h = get_or-take (e - s) (drop s t) k 0 h ∙ get_or-drop s t k 0
+
+-- the parts of the handler table and the line table that a record's words name
+part_targets : (hs : List ℕ) (h n : ℕ) → (h + n) * 4 ≤ length hs → targets_of (slice_range hs (h * 4) ((h + n) * 4)) ≡ targets hs h n
+part_targets hs h n b =
+    let e : length (slice_range hs (h * 4) ((h + n) * 4)) / 4 ≡ n = omega (arith, slice_length hs (h * 4) ((h + n) * 4) (omega arith) b) in
+    rw e (rows_same (target_at (slice_range hs (h * 4) ((h + n) * 4))) (target_at hs) 0 h n (λ i l.
+    let p : h * 4 + (i * 4 + 3) ≡ (h + i) * 4 + 3 = omega arith in
+    rw zero-add (slice_word hs (h * 4) ((h + n) * 4) (i * 4 + 3) (omega arith) ∙ rw p)))
+
+part_entries : (ls : List ℕ) (i n : ℕ) → (i + n) * 2 ≤ length ls → map_of (slice_range ls (i * 2) ((i + n) * 2)) ≡ entries ls i n
+part_entries ls i n b =
+    let e : length (slice_range ls (i * 2) ((i + n) * 2)) / 2 ≡ n = omega (arith, slice_length ls (i * 2) ((i + n) * 2) (omega arith) b) in
+    rw e (rows_same (line_row_at (slice_range ls (i * 2) ((i + n) * 2))) (line_row_at ls) 0 i n (λ k l.
+    let p : i * 2 + k * 2 ≡ (i + k) * 2 = omega arith in
+    let q : i * 2 + (k * 2 + 1) ≡ (i + k) * 2 + 1 = omega arith in
+    rw (zero-add, slice_word ls (i * 2) ((i + n) * 2) (k * 2) (omega arith), slice_word ls (i * 2) ((i + n) * 2) (k * 2 + 1) (omega arith), p, q)))
+
+module _ (q f recs hs ls : List ℕ) (r : ℕ) (fits : RowFits f recs hs ls r) where
   pub record_is : (a e h hn l ln n p t : ℕ) → a ≡ record_word recs r 6 → n ≡ record_word recs r 5 → e ≡ a + n
       → h ≡ record_word recs r 7 → hn ≡ record_word recs r 8 → l ≡ record_word recs r 17 → ln ≡ record_word recs r 18
-      → examine_part (limits_at recs r p t) q (take (e - a) (drop a f)) hs h hn ls l ln ≡ examine_record q (record_at f recs hs ls r)
+      → examine_part (limits_at recs r p t) q (take (e - a) (drop a f)) (slice_range hs (h * 4) ((h + hn) * 4)) (slice_range ls (l * 2) ((l + ln) * 2))
+      ≡ examine_record q (record_at f recs hs ls r)
   unfolding examine_record exam19 exam20
   record_is a e h hn l ln n p t ea en ee eh ehn el eln =
       let d : e - a ≡ record_word recs r 5 = omega arith in
       let s : Same (limits_at recs r p t) (record_at f recs hs ls r) = record { regs = refl; constants = refl; symbols = refl; children = refl } in
-      rw (first_assoc, first_assoc, d, ea, eh, ehn, el, eln, bare_same (limits_at recs r p t) (record_at f recs hs ls r) s)
+      rw (
+        first_assoc,
+        first_assoc,
+        d,
+        ea,
+        eh,
+        ehn,
+        el,
+        eln,
+        bare_same (limits_at recs r p t) (record_at f recs hs ls r) s,
+        part_targets hs (record_word recs r 7) (record_word recs r 8) fits.handling,
+        part_entries ls (record_word recs r 17) (record_word recs r 18) fits.lined,
+      )
 
 -- 15, at the record i with p trees to go
 abbrev rlen_at : List ℕ → ℕ → ℕ
@@ -100,9 +156,6 @@ layout_nil zero = refl
 layout_nil (suc p) = ne_eqb (suc p) 0 (λ e. omega arith)
 
 module _ {recs : List ℕ} {n : ℕ} where
-  pub laid_start : Laid recs n 0 1
-  laid_start = record { inside = omega arith; bounded = omega arith; so = ap (layout 1) (rows_start (rlen_at recs) 0 n n (omega arith)) }
-
   module _ {i p : ℕ} (h : i < n) (g : Laid recs n i p) where
     pub laid_turn : {x : ℕ} → (p ≡ 0 → ⊥) → x ≡ rlen_at recs i → x < 4294967296 → Laid recs n (i + 1) (p - 1 + x)
     laid_turn {x} z e b = record {
@@ -117,22 +170,23 @@ module _ {recs : List ℕ} {n : ℕ} where
   pub laid_end : {i p : ℕ} → n ≤ i → Laid recs n i p → eqb p 0 ≡ whole (rlens_at recs n)
   laid_end {i} {p} h g = layout_nil p ∙ sym (g.so ∙ rw (rows_end (rlen_at recs) i n h))
 
+-- a refusal has a number
+pub number_some : (e : Refusal) → number e ≡ 0 → ⊥
+number_some e = search rules
+
 -- the records in turn, at the record r
 pub record Passed (q f recs hs ls : List ℕ) (from to r : ℕ) : Type 0 where
   pub so : examine_all q (records_between f recs hs ls from to) ≡ examine_all q (records_between f recs hs ls r to)
 
 module _ {q f recs hs ls : List ℕ} {from to : ℕ} where
-  pub passed_start : Passed q f recs hs ls from to from
-  passed_start = record { so = refl }
-
   module _ {r : ℕ} (h : r < to) (g : Passed q f recs hs ls from to r) where
     turned : examine_all q (records_between f recs hs ls from to)
         ≡ first (examine_record q (record_at f recs hs ls r)) (examine_all q (records_between f recs hs ls (r + 1) to))
     unfolding examine_all
     turned = g.so ∙ rw (rows_turn (record_at f recs hs ls) r to h)
 
-    pub passed_turn : {x : ℕ} → x ≡ examine_record q (record_at f recs hs ls r) → x ≡ 0 → Passed q f recs hs ls from to (r + 1)
-    passed_turn e z = record { so = turned ∙ first_none (examine_record q (record_at f recs hs ls r)) _ (sym e ∙ z) }
+    pub passed_turn : 0 ≡ examine_record q (record_at f recs hs ls r) → Passed q f recs hs ls from to (r + 1)
+    passed_turn e = record { so = turned ∙ first_none (examine_record q (record_at f recs hs ls r)) _ (sym e) }
 
     pub passed_stop : {x : ℕ} → x ≡ examine_record q (record_at f recs hs ls r) → (x ≡ 0 → ⊥) → x ≡ examine_all q (records_between f recs hs ls from to)
     passed_stop {x} e z = rw (turned, ← e) (first_some x _ z)
@@ -142,8 +196,8 @@ module _ {q f recs hs ls : List ℕ} {from to : ℕ} where
   passed_end {r} h g = sym (g.so ∙ rw (rows_end (record_at f recs hs ls) r to h))
 
 -- by a list, and by the list in full
-pub full_same : {q w : List ℕ} (p : List Record) → Written q w → examine_all w p ≡ examine_all q p
-full_same {q} {w} p g = same_permits w q (written_permits g) p
+pub full_same : {q : List ℕ} {w : List Bool} (p : List Record) → Written q w → examine_all (bytes_of w) p ≡ examine_all q p
+full_same {q} {w} p g = same_permits (bytes_of w) q (written_permits g) p
 
 -- 15 before the records
 module _ (f recs hs ls : List ℕ) (n : ℕ) where

@@ -2,150 +2,114 @@
 #![tactic(auto)]
 
 ghost use Rattle.std.specs.Prelude.{◌≡◌, ◌+◌, ◌-◌, ◌*◌, ◌<◌, ◌≤◌, length, get_or};
-ghost use Rattle.format.specs.Line.{rising};
+ghost use Rattle.format.specs.Line.{rising, map_of};
 ghost use Rattle.format.specs.Tree.{whole};
 ghost use Rattle.format.specs.Bytes.{refuse};
 ghost use Rattle.format.specs.Exam.{examine_record, examine_all, examine_pattern};
 ghost use Rattle.format.specs.Rows.{record_width};
-ghost use Rattle.flags.specs.Flags.{Limits, Marked};
-ghost use Rattle.examine_list.specs.Full.{Full};
-ghost use Rattle.exam.specs.View.{targets, entries, record_at, records_between, pattern_at, rlens_at, RowFits, Fits};
-ghost use Rattle.exam.specs.Part.{exam19_of, examine_part};
+ghost use Rattle.refusal.specs.Number.{refusal_of};
+ghost use Rattle.flags.specs.Flags.{Marked};
+ghost use Rattle.examine_list.specs.Full.{bytes_of};
+ghost use Rattle.exam.specs.View.{rlens_at};
+ghost use Rattle.exam.specs.Loaded.{record_of, between, pattern_of};
+ghost use Rattle.exam.specs.Part.{targets_of, exam19_of, examine_part};
 
-use examine_list::{FULL, write_full};
-use flags::begins_at;
+pub mod loaded;
+
+use examine_list::{FULL, FullList, write_full};
+use flags::{OperandLimits, begins_at};
 use format::RECORD_WIDTH;
+pub use loaded::Pattern;
+use refusal::Refusal;
 use scan::exam_code;
-
-fn long(x: u32) -> usize
-    ensures { (result ≡ x) × (result < 4294967296) }
-{
-    x as usize
-}
 
 // A word of a table, as a place or a number.
 pub fn word(t: &[u32], i: usize) -> usize
     requires { i < length t.now }
     ensures { (result ≡ get_or t.now i 0) × (result < 4294967296) }
 {
-    long(t[i])
+    t[i] as usize
 }
 
-// So many less, 0 where there are fewer.
-fn less(x: u32, n: u32) -> u32
-    ensures { result ≡ x - n }
+// 19 over handler rows.
+fn exam_19(code: &[u8], flags: &[u8], handlers: &[u32]) -> Result<(), Refusal>
+    requires { Marked code.now flags.now }
+    ensures { refusal_of result ≡ exam19_of code.now (targets_of handlers.now) }
 {
-    if x < n {
-        return 0;
-    }
-    x - n
-}
-
-// 19 over the `n` handlers from row `first` on.
-fn exam_19(code: &[u8], flags: &[u8], handlers: &[u32], first: usize, n: usize) -> u8
-    requires marked { Marked code.now flags.now }
-    requires n_in_bounds { (first + n) * 4 ≤ length handlers.now }
-    ensures { result ≡ exam19_of code.now (targets handlers.now first n) }
-{
-    let end = first + n;
-    let mut h = first;
-    while h < end {
+    for h in 0..handlers.len() / 4 {
         if !begins_at(code, flags, word(handlers, h * 4 + 3)) {
-            return 19;
+            return Err(Refusal::HandlerTarget);
         }
-        h += 1;
     }
-    0
+    Ok(())
 }
 
-// 20 over the `n` lines from row `first` on.
-fn exam_20(lines: &[u32], first: usize, n: usize) -> u8
-    requires { (first + n) * 2 ≤ length lines.now }
-    ensures { result ≡ refuse 20 (rising (entries lines.now first n)) }
+// 20 over line rows.
+fn exam_20(lines: &[u32]) -> Result<(), Refusal>
+    ensures { refusal_of result ≡ refuse 20 (rising (map_of lines.now)) }
 {
-    let end = first + n;
-    let mut j = first;
-    while j + 1 < end {
-        if lines[(j + 1) * 2] < lines[j * 2] {
-            return 20;
+    for j in 1..lines.len() / 2 {
+        if lines[j * 2] < lines[(j - 1) * 2] {
+            return Err(Refusal::LinesFall);
         }
-        j += 1;
     }
-    0
+    Ok(())
 }
 
-// A record by its parts: its code, 19, 20.
+// A record by its parts: its code, 19 over its handler rows, 20 over its line rows.
 fn examine_part(
     code: &[u8],
     flags: &mut [u8],
-    limits: &[u32],
+    limits: &OperandLimits,
     handlers: &[u32],
-    h: usize,
-    hn: usize,
     lines: &[u32],
-    l: usize,
-    ln: usize,
-    permitted: &[u8],
-) -> u8
-    requires code_in_bounds { length code.now ≤ length flags.old }
-    requires limits { Limits limits.now }
-    requires hn_in_bounds { (h + hn) * 4 ≤ length handlers.now }
-    requires ln_in_bounds { (l + ln) * 2 ≤ length lines.now }
-    requires full { Full permitted.now }
-    ensures { result ≡ examine_part limits.now permitted.now code.now handlers.now h hn lines.now l ln }
+    permitted: &FullList,
+) -> Result<(), Refusal>
+    requires { length code.now ≤ length flags.old }
+    ensures { refusal_of result ≡ examine_part limits.now.by_role (bytes_of permitted.now.answers) code.now handlers.now lines.now }
 {
-    let a = exam_code(code, flags, limits, permitted);
-    if a != 0 {
-        return a;
-    }
-    let b = exam_19(code, flags, handlers, h, hn);
-    if b != 0 {
-        return b;
-    }
-    exam_20(lines, l, ln)
+    exam_code(code, flags, limits, permitted)?;
+    exam_19(code, flags, handlers)?;
+    exam_20(lines)
 }
 
-// Examination of record `r` by a list in full: the number of the first condition of 16 to 20, 25 and 32 that it meets, 0 where it passes.
+// Examination of record `r` by a list in full: the first condition of 16 to 20, 25 and 32 that it meets.
 fn examine_record(
-    file: &[u8],
-    records: &[u32],
-    handlers: &[u32],
-    lines: &[u32],
-    flags: &mut [u8],
+    pattern: &Pattern,
     r: usize,
-    permitted: &[u8],
-) -> u8
-    requires row_fits { RowFits file.now records.now handlers.now lines.now r }
-    requires file_in_bounds { length file.now ≤ length flags.old }
-    requires full { Full permitted.now }
-    ensures { result ≡ examine_record permitted.now (record_at file.now records.now handlers.now lines.now r) }
+    flags: &mut [u8],
+    permitted: &FullList,
+) -> Result<(), Refusal>
+    requires inside { r < pattern.now.n }
+    requires file_in_bounds { length pattern.now.file.now ≤ length flags.old }
+    ensures { refusal_of result ≡ examine_record (bytes_of permitted.now.answers) (record_of pattern.now r) }
 {
+    let records = pattern.records;
     let row = r * RECORD_WIDTH;
     let place = word(records, row + 6);
     let end = place + word(records, row + 5);
+    let h = word(records, row + 7);
+    let handlers_end = h + word(records, row + 8);
+    let l = word(records, row + 17);
+    let lines_end = l + word(records, row + 18);
     let nregs = records[row + 2];
-    let pair = less(nregs, 1);
-    let triple = less(nregs, 2);
-    // By the number of an operand's role: none, registers, constants, symbols, children, registers with one behind them and with two.
-    let limits: [u32; 7] = [
-        65536,
-        nregs,
-        records[row + 10],
-        records[row + 12],
-        records[row + 3],
-        pair,
-        triple,
-    ];
+    let limits = OperandLimits {
+        by_role: [
+            65536,
+            nregs,
+            records[row + 10],
+            records[row + 12],
+            records[row + 3],
+            nregs.saturating_sub(1),
+            nregs.saturating_sub(2),
+        ],
+    };
     examine_part(
-        &file[place..end],
+        &pattern.file[place..end],
         flags,
         &limits,
-        handlers,
-        word(records, row + 7),
-        word(records, row + 8),
-        lines,
-        word(records, row + 17),
-        word(records, row + 18),
+        &pattern.handlers[h * 4..handlers_end * 4],
+        &pattern.lines[l * 2..lines_end * 2],
         permitted,
     )
 }
@@ -157,81 +121,61 @@ pub fn whole_tree(records: &[u32], n: usize) -> bool
     ensures { result ≡ whole (rlens_at records.now n) }
 {
     let mut p: usize = 1;
-    let mut i: usize = 0;
-    while i < n {
+    for i in 0..n {
         if p == 0 {
             return false;
         }
         p = p - 1 + word(records, i * RECORD_WIDTH + 3);
-        i += 1;
     }
     p == 0
 }
 
 // Examination of the records from one on, up to but not with another, in turn, by a list in full.
 fn examine_all(
-    file: &[u8],
-    records: &[u32],
-    handlers: &[u32],
-    lines: &[u32],
+    pattern: &Pattern,
     from: usize,
     to: usize,
     flags: &mut [u8],
-    permitted: &[u8],
-) -> u8
-    requires fits { Fits file.now records.now handlers.now lines.now to }
-    requires file_in_bounds { length file.now ≤ length flags.old }
-    requires full { Full permitted.now }
-    ensures { result ≡ examine_all permitted.now (records_between file.now records.now handlers.now lines.now from to) }
+    permitted: &FullList,
+) -> Result<(), Refusal>
+    requires inside { to ≤ pattern.now.n }
+    requires file_in_bounds { length pattern.now.file.now ≤ length flags.old }
+    ensures { refusal_of result ≡ examine_all (bytes_of permitted.now.answers) (between pattern.now from to) }
 {
-    let mut r = from;
-    while r < to {
-        let a = examine_record(file, records, handlers, lines, flags, r, permitted);
-        if a != 0 {
-            return a;
-        }
-        r += 1;
+    for r in from..to {
+        examine_record(pattern, r, flags, permitted)?;
     }
-    0
+    Ok(())
 }
 
-// The same by any list: the number of the first condition of 16 to 20, 25 and 32 that one of them meets, 0 where each passes by itself.
+// The same by any list: the first condition of 16 to 20, 25 and 32 that one of them meets.
 pub fn examine_records(
-    file: &[u8],
-    records: &[u32],
-    handlers: &[u32],
-    lines: &[u32],
+    pattern: &Pattern,
     from: usize,
     to: usize,
     permitted: &[u8],
-) -> u8
-    requires { Fits file.now records.now handlers.now lines.now to }
-    ensures { result ≡ examine_all permitted.now (records_between file.now records.now handlers.now lines.now from to) }
+) -> Result<(), Refusal>
+    requires { to ≤ pattern.now.n }
+    ensures { refusal_of result ≡ examine_all permitted.now (between pattern.now from to) }
 {
-    let mut full: [u8; FULL] = [0; FULL];
-    write_full(permitted, &mut full);
-    if file.len() <= 4096 {
+    let mut answers = [false; FULL];
+    write_full(permitted, &mut answers);
+    let full = FullList { answers };
+    // A small file pays for few flags alone. The arrays are two, since there is no heap for one of the file's length.
+    if pattern.file.len() <= 4096 {
         let mut few: [u8; 4096] = [0; 4096];
-        return examine_all(file, records, handlers, lines, from, to, &mut few, &full);
+        return examine_all(pattern, from, to, &mut few, &full);
     }
     let mut flags: [u8; 65536] = [0; 65536];
-    examine_all(file, records, handlers, lines, from, to, &mut flags, &full)
+    examine_all(pattern, from, to, &mut flags, &full)
 }
 
-// Examination of the first `n` records: the number of the first condition of 15 to 20, 25 and 32 that is met, 0 where the pattern passes.
-pub fn examine_tables(
-    file: &[u8],
-    records: &[u32],
-    handlers: &[u32],
-    lines: &[u32],
-    n: usize,
-    permitted: &[u8],
-) -> u8
-    requires { Fits file.now records.now handlers.now lines.now n }
-    ensures { result ≡ examine_pattern permitted.now (pattern_at file.now records.now handlers.now lines.now n) }
+// Examination of the records: the first condition of 15 to 20, 25 and 32 that is met.
+pub fn examine_tables(pattern: &Pattern, permitted: &[u8]) -> Result<(), Refusal>
+    ensures { refusal_of result ≡ examine_pattern permitted.now (pattern_of pattern.now) }
 {
-    if !whole_tree(records, n) {
-        return 15;
+    if !whole_tree(pattern.records, pattern.n) {
+        return Err(Refusal::NotOneTree);
     }
-    examine_records(file, records, handlers, lines, 0, n, permitted)
+    examine_records(pattern, 0, pattern.n, permitted)
 }

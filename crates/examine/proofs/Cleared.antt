@@ -18,16 +18,16 @@ use Rattle.format.specs.Exam.{passing, examining, examining_single, examine, exa
 use Rattle.format.proofs.Table.{both}
 use Rattle.format.proofs.Places.{records_length}
 use Rattle.layout.proofs.Inside.{loading_reading}
+use Rattle.std.specs.Prelude.{Result, Ok, Err}
+use Rattle.refusal.specs.declared.Refusal.{Refusal}
 use Rattle.sections.specs.declared.Used.{Used}
-use Rattle.file.specs.declared.Loaded.{Loaded}
-use Rattle.file.specs.declared.Loaded.TheVariants as loaded
 use Rattle.rite.specs.Answers.{loaded_of}
 use Rattle.examine_asked.specs.declared.Asked.{Asked}
 use Rattle.examine_asked.specs.declared.Asked.TheVariants as asked
-use Rattle.examine_asked.specs.Asked.{refusal_of}
+use Rattle.examine_asked.specs.Asked.{examine_asked}
 use Rattle.examine_kept.specs.Kept.{asked_in, Examined, examine_kept, kept_of}
-use Rattle.examine_kept.specs.declared.Kept.{Kept}
-use Rattle.examine_kept.specs.declared.Kept.TheVariants as kept
+use Rattle.examine_kept.specs.declared.Failure.{Failure}
+use Rattle.examine_kept.specs.declared.Failure.TheVariants.{Load, Examination}
 use Rattle.examine_kept.proofs.Keeping.{answering_is}
 
 -- what is answered where the tables are cleared once a condition is met
@@ -46,28 +46,28 @@ module _ (x : Asked) (f : List ℕ) (m : Nine) (allow : Allowance) (q : List ℕ
     where
       go : (a : Answer Content) → loading f m allow ≡ a → cleared (examine_kept x f m allow q) ≡ laid m (asked_in x f m allow q)
       go (refused k) l = rw l
-      go (ok c) l = at (eqb (refusal_of x q (pattern_of f c)) 0) refl
+      go (ok c) l = at (eqb (examine_asked x q (pattern_of f c)) 0) refl
         where
-          at : (b : Bool) → eqb (refusal_of x q (pattern_of f c)) 0 ≡ b → cleared (examine_kept x f m allow q) ≡ laid m (asked_in x f m allow q)
+          at : (b : Bool) → eqb (examine_asked x q (pattern_of f c)) 0 ≡ b → cleared (examine_kept x f m allow q) ≡ laid m (asked_in x f m allow q)
           at true e = rw (l, answering_is x q f c, e)
           at false e = rw (l, answering_is x q f c, e)
 
   module _ (w : Words) where
-    told : (s : Kept) → kept_of s w ≡ examine_kept x f m allow q → cleared (kept_of s w) ≡ laid m (asked_in x f m allow q)
+    told : (s : Result Used Failure) → kept_of s w ≡ examine_kept x f m allow q → cleared (kept_of s w) ≡ laid m (asked_in x f m allow q)
     told s e = ap cleared e ∙ cleared_is
 
     -- nothing is met: the rows stay
-    pub went : (u : Used) → kept_of (kept.Rows u) w ≡ examine_kept x f m allow q → loaded_of (loaded.Rows u) w ≡ laid m (asked_in x f m allow q)
-    went u e = told (kept.Rows u) e
+    pub went : (u : Used) → kept_of (Ok u) w ≡ examine_kept x f m allow q → loaded_of (Ok u) w ≡ laid m (asked_in x f m allow q)
+    went u e = told (Ok u) e
 
     -- a condition is met: the tables are cleared
-    pub met_cleared : (n : ℕ) → kept_of (kept.Met n) w ≡ examine_kept x f m allow q → (w' : Words) → w' ≡ words_of m (tables_of nothing)
-        → loaded_of (loaded.Refused n) w' ≡ laid m (asked_in x f m allow q)
-    met_cleared n e w' z = ap (loaded_of (loaded.Refused n)) z ∙ told (kept.Met n) e
+    pub met_cleared : (r : Refusal) → kept_of (Err (Examination r)) w ≡ examine_kept x f m allow q → (w' : Words) → w' ≡ words_of m (tables_of nothing)
+        → loaded_of (Err r) w' ≡ laid m (asked_in x f m allow q)
+    met_cleared r e w' z = ap (loaded_of (Err r)) z ∙ told (Err (Examination r)) e
 
     -- the load is refused: the tables are zeros already
-    pub stopped : (n : ℕ) → kept_of (kept.Refused n) w ≡ examine_kept x f m allow q → loaded_of (loaded.Refused n) w ≡ laid m (asked_in x f m allow q)
-    stopped n e = told (kept.Refused n) e
+    pub stopped : (r : Refusal) → kept_of (Err (Load r)) w ≡ examine_kept x f m allow q → loaded_of (Err r) w ≡ laid m (asked_in x f m allow q)
+    stopped r e = told (Err (Load r)) e
 
 module _ (f : List ℕ) (m : Nine) (allow : Allowance) (q : List ℕ) where
   -- at most 1,024 records are loaded, so a bound of 1,024 is none
@@ -83,7 +83,7 @@ module _ (f : List ℕ) (m : Nine) (allow : Allowance) (q : List ℕ) where
           rw (l, le-leb (length (records_of c)) 1024 few)
       go (refused n) l = rw l
 
-  pub as_whole : (r : Loaded) (w : Words) → loaded_of r w ≡ laid m (asked_in (asked.Whole 1024) f m allow q) → loaded_of r w ≡ examine f m allow q
+  pub as_whole : (r : Result Used Refusal) (w : Words) → loaded_of r w ≡ laid m (asked_in (asked.Whole 1024) f m allow q) → loaded_of r w ≡ examine f m allow q
   unfolding examine
   as_whole r w e = e ∙ ap (laid m) whole_is
 
@@ -92,6 +92,6 @@ module _ (f : List ℕ) (m : Nine) (allow : Allowance) (q : List ℕ) where
   unfolding examining_single
   single_is i = refl
 
-  pub as_single : (i : ℕ) (r : Loaded) (w : Words) → loaded_of r w ≡ laid m (asked_in (asked.Single i) f m allow q) → loaded_of r w ≡ examine_one f m allow q i
+  pub as_single : (i : ℕ) (r : Result Used Refusal) (w : Words) → loaded_of r w ≡ laid m (asked_in (asked.Single i) f m allow q) → loaded_of r w ≡ examine_one f m allow q i
   unfolding examine_one
   as_single i r w e = e ∙ ap (laid m) (single_is i)

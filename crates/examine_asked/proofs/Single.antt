@@ -11,7 +11,7 @@ use Rattle.format.specs.Bytes.{first}
 use Rattle.format.specs.Pattern.{blank}
 use Rattle.format.specs.Exam.{examine_record, examine_all, examine_single}
 use Rattle.format.proofs.RowsFrom.{rows_from_length, rows_from_at, rows_turn, rows_end}
-use Rattle.exam.specs.View.{record_at, records_between, pattern_at, Fits}
+use Rattle.exam.specs.View.{record_at, records_between, pattern_at}
 
 first_alone : (a : ℕ) → first a 0 ≡ a
 first_alone zero = refl
@@ -20,11 +20,6 @@ first_alone (suc a) = refl
 module _ (f recs hs ls : List ℕ) (n : ℕ) where
   pub pattern_length : length (pattern_at f recs hs ls n) ≡ n
   pattern_length = rows_from_length (record_at f recs hs ls) 0 n
-
-  -- fewer records fit as well
-  pub fits_fewer : Fits f recs hs ls n → (k : ℕ) → k ≤ n → Fits f recs hs ls k
-  fits_fewer g k h =
-      record { few = omega (arith, g.few); held = omega (arith, g.held); small = g.small; each = λ r l. g.each r (omega arith) }
 
   module _ (q : List ℕ) (i : ℕ) where
     -- a missing record is 22

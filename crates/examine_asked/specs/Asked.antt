@@ -9,10 +9,10 @@ use Rattle.format.specs.Exam.{examine_pattern, passing, examine_single, passing_
 use Rattle.examine_asked.specs.declared.Asked.{Asked}
 use Rattle.examine_asked.specs.declared.Asked.TheVariants as asked
 
--- the number that answers it, by a list
-abbrev pub refusal_of : Asked → List ℕ → Pattern → ℕ
-refusal_of (asked.Whole rows) q p = cond (leb (length p) rows) (examine_pattern q p) 14
-refusal_of (asked.Single i) q p = examine_single q i p
+-- the number of the refusal that answers it, by a list
+abbrev pub examine_asked : Asked → List ℕ → Pattern → ℕ
+examine_asked (asked.Whole rows) q p = cond (leb (length p) rows) (examine_pattern q p) 14
+examine_asked (asked.Single i) q p = examine_single q i p
 
 -- and what is answered of a file that was loaded
 abbrev pub answering : Asked → List ℕ → List ℕ → Content → Answer Content

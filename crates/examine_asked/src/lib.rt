@@ -1,70 +1,45 @@
-// What is asked of a loaded pattern, the whole of it or one record by itself, and the number that answers it.
+// What is asked of a loaded pattern, the whole of it or one record by itself, and the examination that answers it.
 #![tactic(auto)]
 
 ghost use Rattle.std.specs.Prelude.{◌≡◌};
 ghost use Rattle.format.specs.Exam.{examine_single};
-ghost use Rattle.exam.specs.View.{pattern_at, Fits};
-ghost use Rattle.examine_asked.specs.Asked.{refusal_of};
+ghost use Rattle.exam.specs.Loaded.{pattern_of};
+ghost use Rattle.refusal.specs.Number.{refusal_of};
+ghost use Rattle.examine_asked.specs.Asked.{examine_asked};
 
-use exam::{examine_records, examine_tables};
+use exam::{Pattern, examine_records, examine_tables};
+use refusal::Refusal;
 
 // The whole pattern, which has at most so many records, or a single record.
-#[derive(Drop)]
+#[derive(Clone, Copy)]
 pub enum Asked {
     Whole(usize),
     Single(u32),
 }
 
-// Where a record stands among the others.
-fn place(rec: u32) -> usize
-    ensures { result ≡ rec }
+// Examination of record `rec`: 22 where it is missing, else the first condition of 16 to 20, 25 and 32 that it meets.
+pub fn examine_single(pattern: &Pattern, rec: u32, permitted: &[u8]) -> Result<(), Refusal>
+    ensures { refusal_of result ≡ examine_single permitted.now rec (pattern_of pattern.now) }
 {
-    rec as usize
-}
-
-// Examination of record `rec` of the first `n`: 22 where it is missing, else the number of the first condition of 16 to 20, 25 and 32 that it meets,
-// 0 where it passes by itself.
-pub fn examine_single(
-    file: &[u8],
-    records: &[u32],
-    handlers: &[u32],
-    lines: &[u32],
-    n: usize,
-    rec: u32,
-    permitted: &[u8],
-) -> u8
-    requires { Fits file.now records.now handlers.now lines.now n }
-    ensures { result ≡ examine_single permitted.now rec (pattern_at file.now records.now handlers.now lines.now n) }
-{
-    let r = place(rec);
+    let r = rec as usize;
     let next = r + 1;
-    if next > n {
-        return 22;
+    if next > pattern.n {
+        return Err(Refusal::Missing);
     }
-    examine_records(file, records, handlers, lines, r, next, permitted)
+    examine_records(pattern, r, next, permitted)
 }
 
-// The number that answers what is asked of the first `n` records, 0 where they pass: 14 where the whole pattern has more records than it may.
-pub fn refusal(
-    file: &[u8],
-    records: &[u32],
-    handlers: &[u32],
-    lines: &[u32],
-    n: u32,
-    asked: Asked,
-    permitted: &[u8],
-) -> u8
-    requires { Fits file.now records.now handlers.now lines.now n }
-    ensures { result ≡ refusal_of asked permitted.now (pattern_at file.now records.now handlers.now lines.now n) }
+// The examination that is asked: 14 where the whole pattern has more records than it may.
+pub fn examine_asked(pattern: &Pattern, asked: Asked, permitted: &[u8]) -> Result<(), Refusal>
+    ensures { refusal_of result ≡ examine_asked asked permitted.now (pattern_of pattern.now) }
 {
-    let count = n as usize;
     match asked {
         Asked::Whole(rows) => {
-            if rows < count {
-                return 14;
+            if rows < pattern.n {
+                return Err(Refusal::NoRow);
             }
-            examine_tables(file, records, handlers, lines, count, permitted)
+            examine_tables(pattern, permitted)
         }
-        Asked::Single(rec) => examine_single(file, records, handlers, lines, count, rec, permitted),
+        Asked::Single(rec) => examine_single(pattern, rec, permitted),
     }
 }

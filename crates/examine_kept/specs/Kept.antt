@@ -1,15 +1,17 @@
 -- A file that is loaded and then examined: what is answered, and what the tables hold where what was loaded is kept.
 -- Assumes nothing.
-use Rattle.std.specs.Prelude.{ℕ, List}
+use Rattle.std.specs.Prelude.{ℕ, List, Result, Ok, Err}
 use Rattle.format.specs.Bytes.{Answer, ok, refused, bind, on_answer}
 use Rattle.format.specs.Allowance.{Allowance}
 use Rattle.format.specs.File.{Content}
 use Rattle.format.specs.Load.{Nine, Counts, counts, Words, loading, load}
+use Rattle.refusal.specs.Number.{number}
+use Rattle.sections.specs.declared.Used.{Used}
 use Rattle.rite.specs.Answers.{counts_of}
 use Rattle.examine_asked.specs.declared.Asked.{Asked}
 use Rattle.examine_asked.specs.Asked.{answering}
-use Rattle.examine_kept.specs.declared.Kept.{Kept}
-use Rattle.examine_kept.specs.declared.Kept.TheVariants as kept
+use Rattle.examine_kept.specs.declared.Failure.{Failure}
+use Rattle.examine_kept.specs.declared.Failure.TheVariants.{Load, Examination}
 
 -- what is answered: load's refusal, or that of what was asked
 abbrev pub asked_in : Asked → List ℕ → Nine → Allowance → List ℕ → Answer Content
@@ -31,10 +33,10 @@ unfoldable pub examine_kept : Asked → List ℕ → Nine → Allowance → List
 examine_kept x f m a q = record { answer = examined x q f (loading f m a); tables = (load f m a).tables }
 
 -- what each case of the answer says
-abbrev pub kept_answer : Kept → Answer (Answer Counts)
-kept_answer (kept.Rows u) = ok (ok (counts_of u))
-kept_answer (kept.Met e) = ok (refused e)
-kept_answer (kept.Refused e) = refused e
+abbrev pub kept_answer : Result Used Failure → Answer (Answer Counts)
+kept_answer (Ok u) = ok (ok (counts_of u))
+kept_answer (Err (Examination e)) = ok (refused (number e))
+kept_answer (Err (Load e)) = refused (number e)
 
-abbrev pub kept_of : Kept → Words → Examined
+abbrev pub kept_of : Result Used Failure → Words → Examined
 kept_of r t = record { answer = kept_answer r; tables = t }

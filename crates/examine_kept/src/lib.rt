@@ -2,53 +2,53 @@
 #![tactic(auto)]
 
 ghost use Rattle.std.specs.Prelude.{◌≡◌};
-ghost use Rattle.rite.specs.Answers.{words, sizes, allowance_of};
+ghost use Rattle.exam.specs.View.{pattern_at, Fits};
+ghost use Rattle.exam.specs.Loaded.{pattern_of};
+ghost use Rattle.tables.specs.Tables.{words_of, Same};
+ghost use Rattle.rite.specs.Answers.{sizes, allowance_of};
 ghost use Rattle.examine_kept.specs.Kept.{examine_kept, kept_of};
 
-use examine_asked::{Asked, refusal};
-use rite::{Allowance, Loaded, Used};
+use exam::Pattern;
+use examine_asked::{Asked, examine_asked};
+use refusal::Refusal;
+use rite::{Allowance, Used};
+use tables::Tables;
 
-// The rows used, where what is asked passes; the number of what was met of a file that is loaded; or the load's refusal.
-#[derive(Drop)]
-pub enum Kept {
-    Rows(Used),
-    Met(u8),
-    Refused(u8),
+// Whether the load refuses, and then every table is zeros alone, or the examination of what it loaded.
+#[derive(Clone, Copy, Debug, PartialEq, Eq)]
+pub enum Failure {
+    Load(Refusal),
+    Examination(Refusal),
 }
 
-// Loads a file under an allowance and examines what is asked of it by a list of permitted opcodes. What was loaded stays in the tables; after the load's own
-// refusal every table is zeros alone.
+// The pattern of the first `n` records that the tables hold.
+pub fn pattern_in<'a>(f: &'a [u8], t: &'a Tables<'_>, n: u32) -> Pattern<'a>
+    requires { Fits f.now t.now.records.now t.now.handlers.now t.now.lines.now n }
+    ensures { pattern_of result ≡ pattern_at f.now t.now.records.now t.now.handlers.now t.now.lines.now n }
+{
+    Pattern {
+        file: f,
+        records: t.records,
+        handlers: t.handlers,
+        lines: t.lines,
+        n: n as usize,
+    }
+}
+
+// Loads a file under an allowance and examines what is asked of it by a list of permitted opcodes. What was loaded stays in the tables, whatever is met of it.
 pub fn examine_kept(
     f: &[u8],
-    records: &mut [u32],
-    handlers: &mut [u32],
-    pool: &mut [u32],
-    symbols: &mut [u32],
-    strings: &mut [u32],
-    names: &mut [u32],
-    filenames: &mut [u32],
-    files: &mut [u32],
-    lines: &mut [u32],
+    t: &mut Tables,
     asked: Asked,
     a: Allowance,
     permitted: &[u8],
-) -> Kept
-    ensures { kept_of result (words records.new handlers.new pool.new symbols.new strings.new names.new
-        filenames.new files.new lines.new)
-        ≡ examine_kept asked f.now (sizes (words records.old handlers.old pool.old symbols.old strings.old
-        names.old filenames.old files.old lines.old)) (allowance_of a)
-        permitted.now }
+) -> Result<Used, Failure>
+    ensures same { Same t.old t.new }
+    ensures kept { kept_of result (words_of t.new)
+        ≡ examine_kept asked f.now (sizes (words_of t.old)) (allowance_of a) permitted.now }
 {
-    match rite::load(
-        f, records, handlers, pool, symbols, strings, names, filenames, files, lines, a,
-    ) {
-        Loaded::Rows(u) => {
-            let e = refusal(f, records, handlers, lines, u.records, asked, permitted);
-            if e == 0 {
-                return Kept::Rows(u);
-            }
-            Kept::Met(e)
-        }
-        Loaded::Refused(e) => Kept::Refused(e),
-    }
+    let used = rite::load(f, t, a).map_err(Failure::Load)?;
+    let pattern = pattern_in(f, t, used.records);
+    examine_asked(&pattern, asked, permitted).map_err(Failure::Examination)?;
+    Ok(used)
 }

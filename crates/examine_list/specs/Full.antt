@@ -1,22 +1,26 @@
--- A list of permitted opcodes in full: a byte for each byte, 1 where the list says yes.
+-- A list of permitted opcodes in full: an answer for each byte.
 -- Assumes nothing.
-use Rattle.std.specs.Prelude.{ℕ, ◌≡◌, Bool, cond, List, length, get_or}
+use Rattle.std.specs.Prelude.{ℕ, ◌≡◌, Bool, false, cond, List, map, length, slice_index_or}
 use Rattle.format.specs.Permitted.{permits}
 
 -- an answer as a number
 abbrev pub said : Bool → ℕ
 said x = cond x 1 0
 
--- as many zeros
-pub record Blank (w : List ℕ) : Type 0 where
+-- the list of bytes that says the same
+abbrev pub bytes_of : List Bool → List ℕ
+bytes_of w = map said w
+
+-- noes alone
+pub record Blank (w : List Bool) : Type 0 where
   pub bytes : length w ≡ 256
-  pub zeros : (b : ℕ) → get_or w b 0 ≡ 0
+  pub noes : (b : ℕ) → slice_index_or w b false ≡ false
 
 -- w is the list q in full
-pub record Written (q w : List ℕ) : Type 0 where
+pub record Written (q : List ℕ) (w : List Bool) : Type 0 where
   pub bytes : length w ≡ 256
-  pub told : (b : ℕ) → get_or w b 0 ≡ said (permits q b)
+  pub told : (b : ℕ) → slice_index_or w b false ≡ permits q b
 
 -- a list that is in full itself
-abbrev pub Full : List ℕ → Type 0
-Full q = Written q q
+abbrev pub Told : List Bool → Type 0
+Told w = Written (bytes_of w) w

@@ -1,66 +1,86 @@
 -- A file by its tests, and the turns of the loop over sections.
 -- Assumes nothing.
 use Prim.Native.Nat.{ℕ, zero, suc, ◌+◌, ◌-◌, ◌<◌, ◌≤◌}
-use mathlib.Core.Path.{◌≡◌, refl}
+use mathlib.Core.Path.{◌≡◌, refl, ◌∙◌}
 use mathlib.Core.Bool.{true, false}
 use mathlib.Core.List.{List}
 use native.Mathlib.Omega.{arith}
 use lib.ListN.{length}
-use borrow.Author.Tests.{eq-eqb, ne_eqb}
-use Rattle.format.specs.Bytes.{has}
+use Rattle.format.specs.Bytes.{ok, refused, on_answer, has}
 use Rattle.format.specs.File.{file_refusal}
 use Rattle.format.specs.Load.{Words}
+use Rattle.refusal.specs.declared.Refusal.{Refusal}
+use Rattle.refusal.specs.Number.{number}
+use Rattle.refusal.proofs.Number.{number_above_0}
+use Rattle.tables.specs.declared.Tables.{Tables}
+use Rattle.tables.specs.Tables.{words_of, Lengths, Same}
 use Rattle.irep.specs.declared.Limits.{Limits}
+use Rattle.sections.specs.declared.Used.{Used}
 use Rattle.sections.specs.declared.Progress.{Progress}
 use Rattle.sections.specs.declared.Section.{Section}
-use Rattle.sections.specs.declared.Section.TheVariants as section
-use Rattle.sections.specs.Sections.{begun}
-use Rattle.file.specs.declared.Loaded.{Loaded}
-use Rattle.file.specs.declared.Loaded.TheVariants as loaded_is
-use Rattle.file.specs.File.{out, loaded, section_out, sections_out, file_out}
+use Rattle.sections.specs.Sections.{begun, used_of}
+use Rattle.file.specs.File.{Out, out, section_out, sections_out, file_out}
 
 -- a file that its tests refuse, and one whose sections are read
-module _ (f : List ℕ) (limit : Limits) (t : Words) (k : ℕ) (e : k ≡ file_refusal f limit.bytes) where
-  pub file_refused : ¬ (k ≡ 0) → loaded (loaded_is.Refused k) t ≡ file_out f limit t
+module _ (f : List ℕ) (limit : Limits) (t : Words) where
+  pub file_refused : (e : Refusal) → number e ≡ file_refusal f limit.bytes → out (refused (number e)) t ≡ file_out f limit t
   unfolding file_out
-  file_refused n = rw (← e, ne_eqb k 0 n)
+  file_refused e n = rw (← n, number_above_0 e)
 
-  pub file_read : k ≡ 0 → (r : Loaded) (t' : Words) → loaded r t' ≡ sections_out f limit (length f) 20 t begun → loaded r t' ≡ file_out f limit t
+  pub file_read : 0 ≡ file_refusal f limit.bytes → (o : Out Used) → o ≡ sections_out f limit (length f) 20 t begun → o ≡ file_out f limit t
   unfolding file_out
-  file_read z r t' d = rw (← e, eq-eqb k 0 z) d
+  file_read e o d = rw (← e) d
 
--- the tables keep their lengths
-pub record Same (t t' : Words) : Type 0 where
-  pub records : length t.records ≡ length t'.records
-  pub handlers : length t.handlers ≡ length t'.handlers
-  pub pool : length t.pool ≡ length t'.pool
-  pub symbols : length t.symbols ≡ length t'.symbols
-  pub strings : length t.strings ≡ length t'.strings
-  pub names : length t.names ≡ length t'.names
-  pub file_names : length t.file_names ≡ length t'.file_names
-  pub files : length t.files ≡ length t'.files
-  pub lines : length t.lines ≡ length t'.lines
+-- tables are the same as themselves, and after one call and the next
+pub same_here : (t : Tables) → Same t t
+same_here t =
+    let lengths : Lengths (words_of t) (words_of t) =
+    record { records = refl; handlers = refl; pool = refl; symbols = refl; strings = refl; names = refl; file_names = refl; files = refl; lines = refl } in
+    record { records = refl; handlers = refl; pool = refl; symbols = refl; strings = refl; names = refl; file_names = refl; files = refl; lines = refl; lengths = lengths }
 
--- a turn of the loop over sections: it goes on, it is refused, too few bytes are left, none is left to read
+lengths_again : (a b c : Words) → Lengths a b → Lengths b c → Lengths a c
+lengths_again a b c s r =
+    record {
+      records = r.records ∙ s.records;
+      handlers = r.handlers ∙ s.handlers;
+      pool = r.pool ∙ s.pool;
+      symbols = r.symbols ∙ s.symbols;
+      strings = r.strings ∙ s.strings;
+      names = r.names ∙ s.names;
+      file_names = r.file_names ∙ s.file_names;
+      files = r.files ∙ s.files;
+      lines = r.lines ∙ s.lines;
+    }
+
+pub same_again : (a b c : Tables) → Same a b → Same b c → Same a c
+same_again a b c s r =
+    record {
+      records = r.records ∙ s.records;
+      handlers = r.handlers ∙ s.handlers;
+      pool = r.pool ∙ s.pool;
+      symbols = r.symbols ∙ s.symbols;
+      strings = r.strings ∙ s.strings;
+      names = r.names ∙ s.names;
+      file_names = r.file_names ∙ s.file_names;
+      files = r.files ∙ s.files;
+      lines = r.lines ∙ s.lines;
+      lengths = lengths_again (words_of a) (words_of b) (words_of c) s.lengths r.lengths;
+    }
+
+-- a turn of the loop over sections; too few bytes are left, or no section
 module _ (f : List ℕ) (limit : Limits) where
-  pub sections_go : (n at : ℕ) (t : Words) (p : Progress) (r : Section) (t' : Words) (size : ℕ) (q : Progress) → 0 < n → has f at 4 ≡ true
-      → out r t' ≡ section_out f limit at t p → r ≡ section.Next size q → sections_out f limit (n - 1) (at + size) t' q ≡ sections_out f limit n at t p
+  pub sections_go : (n at : ℕ) (t : Words) (p : Progress) (o : Out Section) → 0 < n → has f at 4 ≡ true → o ≡ section_out f limit at t p
+      → on_answer o.ans (λ s. sections_out f limit (n - 1) (at + s.size) o.tables s.progress) (λ e. out (refused e) o.tables) ≡ sections_out f limit n at t p
   unfolding sections_out
-  sections_go zero at t p r t' size q h b e d = absurd (omega arith)
-  sections_go (suc n) at t p r t' size q h b e d = let k : suc n - 1 ≡ n = omega arith in rw (k, b, ← e, d)
+  sections_go zero at t p o h b e = absurd (omega arith)
+  sections_go (suc n) at t p o h b e = let k : suc n - 1 ≡ n = omega arith in rw (k, b, ← e)
 
-  pub sections_no : (n at : ℕ) (t : Words) (p : Progress) (r : Section) (t' : Words) (k : ℕ) → 0 < n → has f at 4 ≡ true
-      → out r t' ≡ section_out f limit at t p → r ≡ section.Refused k → loaded (loaded_is.Refused k) t' ≡ sections_out f limit n at t p
-  unfolding sections_out
-  sections_no zero at t p r t' k h b e d = absurd (omega arith)
-  sections_no (suc n) at t p r t' k h b e d = rw (b, ← e, d)
-
-  pub sections_short : (n at : ℕ) (t : Words) (p : Progress) → has f at 4 ≡ false → loaded (loaded_is.Rows p.used) t ≡ sections_out f limit n at t p
+  pub sections_short : (n at : ℕ) (t : Words) (p : Progress) → has f at 4 ≡ false → out (ok (used_of p)) t ≡ sections_out f limit n at t p
   unfolding sections_out
   sections_short zero at t p b = refl
   sections_short (suc n) at t p b = rw b
 
-  pub sections_done : (n at : ℕ) (t : Words) (p : Progress) → n ≤ 0 → loaded (loaded_is.Rows p.used) t ≡ sections_out f limit n at t p
+  pub sections_done : (n at : ℕ) (t : Words) (p : Progress) → n ≤ 0 → out (ok (used_of p)) t ≡ sections_out f limit n at t p
   unfolding sections_out
   sections_done zero at t p h = refl
   sections_done (suc n) at t p h = absurd (omega arith)

@@ -1,5 +1,4 @@
-pub mod Values
 pub mod Registers
 pub mod Roles
-pub mod Tested
+pub mod Tests
 pub mod Goes

@@ -1,13 +1,13 @@
 -- The registers that an instruction names, by the operands that the code reads and the sum in the digits of its opcode.
 -- Assumes nothing.
-use Prim.Native.Nat.{ℕ, zero, suc, ◌+◌, ◌-◌, ◌*◌, ◌/◌, ◌≤◌, ◌<◌}
+use Prim.Native.Nat.{ℕ, suc, ◌+◌, ◌-◌, ◌*◌, ◌≤◌}
 use native.Mathlib.Omega.{arith}
 use mathlib.Core.Path.{◌≡◌, refl, sym, ap, ◌∙◌}
 use mathlib.Core.Bool.{Bool, true, false, ◌&&◌, ◌||◌}
 use mathlib.Core.List.{List}
 use lib.Dec.{T, eqb, eqb→eq, leb, ltb}
 use lib.ListN.{get_or}
-use borrow.Author.Tests.{lt-ltb, le-ltb, le-leb, ltb-true, ltb-false, leb-true, leb-false, ne_eqb}
+use borrow.Author.Tests.{lt-ltb, le-ltb, le-leb, ltb-true, ltb-false, leb-true, leb-false}
 use Rattle.format.specs.Bytes.{byte}
 use Rattle.format.specs.Insn.{Kind, Z, BB, B, BS, BSS, BBB, S, W, Role, reg, pool, sym as symbol, child, plain}
 use Rattle.format.specs.Insn.{Row, fields_by, name, kind, table, row, first_width, second_width, operand, operands, opcode, row_at}
@@ -19,7 +19,7 @@ use Rattle.format.specs.Exam.{below, range_below, bounded}
 use Rattle.format.proofs.Table.{both, by_test}
 use Rattle.runs.specs.Places.{first_place, second_place, third_place}
 use Rattle.runs.proofs.Operands.{below_places}
-use Rattle.opcode.specs.Digits.{first_role, second_role, third_role, role_number, first_by, form_number, end_by, first_in, second_in, third_in, form_in, digits_of}
+use Rattle.opcode.specs.Digits.{first_role, second_role, third_role, role_number, first_by, form_number, end_by, digits_of}
 use Rattle.opcode.proofs.Numbers.{role_same, few, first_digit, second_digit, third_digit, form_digits}
 use Rattle.flags.specs.Flags.{Limits, bare, within, below_by}
 
@@ -180,11 +180,6 @@ beside true true false false = refl
 beside true false z true = refl
 beside true false z false = refl
 
--- the test of an operand by the number of its role
-pub limit_told : {l : List ℕ} → Limits l → (x v : ℕ) → v < 65536 → ltb v (get_or l x 0) ≡ within l x v
-limit_told h zero v s = rw h.plain_limit (lt-ltb v 65536 s)
-limit_told h (suc x) v s = rw (ne_eqb (suc x) 0 (λ (e : suc x ≡ 0). omega arith))
-
 within_is : (l c : List ℕ) (x : Role) (v : ℕ) → within l (role_number x) v ≡ below (bare l c) x v
 unfolding below
 within_is l c reg v = refl
@@ -263,23 +258,3 @@ module _ {l : List ℕ} (h : Limits l) (c : List ℕ) (o : ℕ) {d : ℕ} (e : d
       rw (first_digit q e n, second_digit q e n, third_digit q e n, form_digits q e n)
       (rw (within_is l c (second_role q) b, within_is l c (third_role q) t, below_places r o, named_places x y c (first_place c o) f q u)
       (by_form h c q a b t (below r (second_role q) b) (below r (third_role q) t) f u (register_below l c (second_role q) b)))
-
--- one test after the other
-module _ (l : List ℕ) (d a b e : ℕ) where
-  pub first_fails : within l (first_in d) a ≡ false → false ≡ below_by l d a b e
-  first_fails f = rw f
-
-  module _ (t : within l (first_in d) a ≡ true) where
-    pub second_fails : within l (second_in d) b ≡ false → false ≡ below_by l d a b e
-    second_fails f = rw (t, f)
-
-    module _ (u : within l (second_in d) b ≡ true) where
-      -- the opcode asks for no more
-      pub no_more : d / 134217728 ≡ 0 → true ≡ below_by l d a b e
-      no_more z = rw (t, u, z, sum_is own a b e, le-leb 0 (get_or l 1 0) (omega arith))
-
-      pub third_fails : within l (third_in d) e ≡ false → false ≡ below_by l d a b e
-      third_fails f = rw (t, u, f)
-
-      pub last_told : within l (third_in d) e ≡ true → {r : Bool} → r ≡ leb (end_by (form_in d) a b e) (get_or l 1 0) → r ≡ below_by l d a b e
-      last_told v q = q ∙ rw (t, u, v)

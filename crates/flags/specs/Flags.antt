@@ -1,10 +1,11 @@
 -- The tests of an instruction, its flag, and what flags say of a record: a record of which only the bytes and the counts matter.
 -- Assumes nothing.
 use Rattle.std.specs.Prelude.{ℕ, zero, suc, ◌+◌, ◌-◌, ◌*◌, ◌≤◌, ◌<◌, ◌≡◌, Bool, false, cond, ◌&&◌, ◌||◌, List, [], leb, ltb, eqb, length, get_or, drop}
-use Rattle.format.specs.Bytes.{byte, u16_at, refuse}
+use Rattle.format.specs.Bytes.{Answer, ok, refused, byte, u16_at, refuse}
 use Rattle.format.specs.Insn.{flow, prefix, first_width, second_width, opcode, row_at, rest, next, signed16}
 use Rattle.format.specs.Pattern.{Record, begins}
 use Rattle.format.specs.Exam.{bounded, at16}
+use Rattle.flags.specs.declared.Tested.{Tested}
 use Rattle.opcode.specs.Digits.{flag_inside, flag_last, end_by, size_in, first_in, second_in, inside_in, last_in, first_byte_in, second_byte_in, third_in, form_in, digits_of}
 
 -- what operands have to stay below, by the number of their role: 65536 where it is plain, less by one and by two where registers behind it count
@@ -70,9 +71,20 @@ flag_at r o =
 abbrev pub flag_by : Bool → Bool → ℕ → ℕ
 flag_by below inside d = cond below (cond inside (inside_in d) (last_in d)) 2
 
--- what the tests of the instruction at o answer: its size and, behind that, its flag; or no size, and the number that it meets of 16 and 25
-unfoldable pub tested_at : List ℕ → List ℕ → ℕ → ℕ
-tested_at l c o = cond (eqb (at16 c o) 0) (size_at c o + flag_at (bare l c) o * 64) (at16 c o * 64)
+-- what the tests of an instruction find: its size and its flag
+pub record Found : Type 0 where
+  pub size : ℕ
+  pub flag : ℕ
+
+abbrev pub found : ℕ → ℕ → Found
+found n f = record { size = n; flag = f }
+
+abbrev pub found_of : Tested → Found
+found_of t = found t.size t.flag
+
+-- and what those of the instruction at o answer: that, or the number that it meets of 16 and 25
+unfoldable pub tested_at : List ℕ → List ℕ → ℕ → Answer Found
+tested_at l c o = cond (eqb (at16 c o) 0) (ok (found (size_at c o) (flag_at (bare l c) o))) (refused (at16 c o))
 
 -- what 17 and 18 answer at an instruction by its flag; t: an instruction begins at its target
 unfoldable pub judged : ℕ → Bool → ℕ

@@ -6,46 +6,38 @@ ghost use Rattle.format.specs.Bytes.{byte};
 ghost use Rattle.format.specs.Insn.{operand, opcode as opcode_of, signed16, next};
 ghost use Rattle.format.specs.Registers as registers;
 ghost use Rattle.format.specs.Pattern.{begins};
+ghost use Rattle.refusal.specs.Number.{answer_as};
 ghost use Rattle.opcode.specs.Digits.{end_by, instruction};
-ghost use Rattle.flags.specs.Flags.{Limits, Numbered, Alone, Entire, bare, size_behind, within, below_by, flag_at, flag_by, tested_at, Marked, lands_from};
+ghost use Rattle.flags.specs.Flags.{Numbered, Alone, Entire, bare, size_behind, within, below_by, flag_at, flag_by, found_of, tested_at, Marked, lands_from};
 
+pub mod limits;
+
+pub use limits::OperandLimits;
 use opcode::parts::*;
 use opcode::{digits, first_width, lead, second_width};
+use refusal::Refusal;
 
 // The flag of an instruction with an operand that meets 17, and of one whose target has to be tested.
 pub const HIGH: u8 = 2;
 
 pub const TARGETED: u8 = 3;
 
-// What the tests answer where 16 is met, and where 25 is.
-const UNREADABLE: usize = 16 * SIZE;
-
-const STRAY: usize = 25 * SIZE;
-
 // The number of arguments, or of pairs of a key and a value, that says that one register holds them all.
 const ALL_IN_ONE: usize = 15;
 
-// A byte as a number.
-fn wide(x: u8) -> usize
-    ensures { (result ≡ x) × (result < 256) }
-{
-    x as usize
-}
-
-fn long(x: u32) -> usize
-    ensures { (result ≡ x) × (result < 4294967296) }
-{
-    x as usize
+// What the tests of an instruction find: its size and its flag.
+#[derive(Clone, Copy)]
+pub struct Tested {
+    pub size: usize,
+    // Kept in an array, one byte for each byte of code, and read off the digits of an opcode: an enum takes a match for each instruction.
+    pub flag: u8,
 }
 
 // The byte at `i`, 0 past the end.
 fn byte_at(code: &[u8], i: usize) -> usize
     ensures { (result ≡ byte code.now i) × (result < 256) }
 {
-    if i < code.len() {
-        return wide(code[i]);
-    }
-    0
+    usize::from(code.get(i).copied().unwrap_or(0))
 }
 
 // The number that an operand of one or two bytes holds. How many it has costs no test.
@@ -57,12 +49,11 @@ pub fn operand_at(code: &[u8], at: usize, w: usize) -> usize
 }
 
 // Is the operand `v` below the limit of this number? One that is plain is below any.
-fn is_below(v: usize, role: usize, limits: &[u32]) -> bool
-    requires limits { Limits limits.now }
+fn is_below(v: usize, role: usize, limits: &OperandLimits) -> bool
     requires role_bound { (role < 7) × (v < 65536) }
-    ensures { result ≡ within limits.now role v }
+    ensures { result ≡ within limits.now.by_role role v }
 {
-    v < long(limits[role])
+    v < limits.by_role[role] as usize
 }
 
 // How many registers `n` arguments take, so many each.
@@ -106,11 +97,17 @@ fn end_of(sum: usize, a: usize, b: usize, c: usize) -> usize
 
 // 17 at an instruction whose operands begin at `at`, by the digits of its opcode. The first has `x` bytes and the second `y`, where a prefix can
 // widen them; a third that has a role is one byte.
-fn operands_below(code: &[u8], at: usize, x: usize, y: usize, d: usize, limits: &[u32]) -> bool
-    requires limits { Limits limits.now }
+fn operands_below(
+    code: &[u8],
+    at: usize,
+    x: usize,
+    y: usize,
+    d: usize,
+    limits: &OperandLimits,
+) -> bool
     requires numbered { Numbered d }
     requires le_x { (1 ≤ x) × (x ≤ 2) × (1 ≤ y) × (y ≤ 2) × (at ≤ length code.now + 2) }
-    ensures { result ≡ below_by limits.now d (operand x code.now at) (operand y code.now (at + x))
+    ensures { result ≡ below_by limits.now.by_role d (operand x code.now at) (operand y code.now (at + x))
         (byte code.now (at + x + y)) }
 {
     let a = operand_at(code, at, x);
@@ -129,7 +126,7 @@ fn operands_below(code: &[u8], at: usize, x: usize, y: usize, d: usize, limits: 
     if !is_below(c, more % BASE, limits) {
         return false;
     }
-    end_of(more / BASE, a, b, c) <= long(limits[REG])
+    end_of(more / BASE, a, b, c) <= limits.by_role[REG] as usize
 }
 
 // The flag of an instruction by 17, by whether its next offset is inside the record, and by the digits of its opcode.
@@ -146,10 +143,9 @@ fn flag_of(below: bool, inside: bool, d: usize) -> u8
 }
 
 // The flag of the instruction at `i`, which has no prefix and is whole, by the digits of its opcode.
-pub fn flag_at(code: &[u8], i: usize, d: usize, limits: &[u32]) -> u8
-    requires limits { Limits limits.now }
+pub fn flag_at(code: &[u8], i: usize, d: usize, limits: &OperandLimits) -> u8
     requires alone { Alone code.now i d }
-    ensures { result ≡ flag_at (bare limits.now code.now) i }
+    ensures { result ≡ flag_at (bare limits.now.by_role code.now) i }
 {
     let below = operands_below(code, i + 1, 1, 1, d, limits);
     flag_of(below, i + d % SIZE < code.len(), d)
@@ -164,35 +160,34 @@ fn size_behind(p: u8, d: usize) -> usize
     1 + d % SIZE + x * (d / FIRST_BYTE % BASE) + y * (d / SECOND_BYTE % BASE)
 }
 
-// The tests of the instruction at `i`, whose first byte is no instruction by itself: its size and, behind that, its flag; or no size, and the number
-// that it meets of 16 and 25.
-pub fn test_behind(code: &[u8], i: usize, limits: &[u32]) -> usize
-    requires limits { Limits limits.now }
+// The tests of the instruction at `i`, whose first byte is no instruction by itself: its size and its flag, or what it meets of 16 and 25.
+pub fn test_behind(code: &[u8], i: usize, limits: &OperandLimits) -> Result<Tested, Refusal>
     requires i_in_bounds { (i < length code.now) × (false ≡ instruction (byte code.now i)) }
-    ensures { result ≡ tested_at limits.now code.now i }
+    ensures { answer_as found_of result ≡ tested_at limits.now.by_role code.now i }
 {
     let p = code[i];
     if lead(p) == 0 {
-        return UNREADABLE;
+        return Err(Refusal::Unreadable);
     }
     let at = i + 1;
     if at == code.len() {
-        return STRAY;
+        return Err(Refusal::StrayPrefix);
     }
     let b = code[at];
     let d = digits(b);
     if d % SIZE == 0 {
         if lead(b) == 0 {
-            return UNREADABLE;
+            return Err(Refusal::Unreadable);
         }
-        return STRAY;
+        return Err(Refusal::StrayPrefix);
     }
     let n = size_behind(p, d);
     if code.len() - i < n {
-        return UNREADABLE;
+        return Err(Refusal::Unreadable);
     }
     let below = operands_below(code, i + 2, first_width(p), second_width(p), d, limits);
-    n + wide(flag_of(below, i + n < code.len(), d)) * SIZE
+    let flag = flag_of(below, i + n < code.len(), d);
+    Ok(Tested { size: n, flag })
 }
 
 // The opcode byte of the instruction at `i`.
@@ -220,10 +215,7 @@ pub fn begins_at(code: &[u8], flags: &[u8], t: usize) -> bool
     requires { Marked code.now flags.now }
     ensures { result ≡ begins code.now t }
 {
-    if t < code.len() {
-        return flags[t] > 0;
-    }
-    false
+    t < code.len() && flags[t] > 0
 }
 
 // A jump's operand with 65536 added where it counts forward.
@@ -242,7 +234,7 @@ pub fn lands_at(code: &[u8], flags: &[u8], next: usize) -> bool
     requires le_next { (2 ≤ next) × (next ≤ length code.now) }
     ensures { result ≡ lands_from code.now next }
 {
-    let s = wide(code[next - 2]) * 256 + wide(code[next - 1]);
+    let s = usize::from(code[next - 2]) * 256 + usize::from(code[next - 1]);
     let j = next + signed(s);
     if j < 65536 {
         return false;

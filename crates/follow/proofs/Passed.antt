@@ -17,14 +17,22 @@ use Rattle.format.specs.Exam.{examine_pattern, passing}
 use Rattle.format.specs.Run as format
 use Rattle.format.specs.Run.{Choice, Standing, standing, run, choices, following, follow}
 use Rattle.format.proofs.Answers.{ok_refused}
-use Rattle.exam.specs.View.{pattern_at, Ready}
+use Rattle.format.proofs.RowsFrom.{rows_from_length}
+use Rattle.exam.specs.View.{record_at, pattern_at, Ready}
+use Rattle.std.specs.Prelude.{Ok, Err}
+use Rattle.refusal.specs.declared.Refusal.{Refusal}
+use Rattle.refusal.specs.Number.{number}
 use Rattle.sections.specs.declared.Used.{Used}
-use Rattle.file.specs.declared.Loaded.TheVariants as loaded
 use Rattle.rite.specs.Answers.{counts_of, loaded_of}
 use Rattle.run.specs.Follow.{out, follow_out}
 use Rattle.examine_asked.specs.declared.Asked.TheVariants as asked
 use Rattle.examine_kept.specs.Kept.{asked_in}
 use Rattle.examine_kept.proofs.Keeping.{Given, fits_given, pattern_given, count_is}
+
+-- the same pattern has the same number of records
+pub same_number : (f recs hs ls : List ℕ) (n : ℕ) (f' recs' hs' ls' : List ℕ) (n' : ℕ) → pattern_at f recs hs ls n ≡ pattern_at f' recs' hs' ls' n' → n ≡ n'
+same_number f recs hs ls n f' recs' hs' ls' n' e =
+    sym (rows_from_length (record_at f recs hs ls) 0 n) ∙ ap length e ∙ rows_from_length (record_at f' recs' hs' ls') 0 n'
 
 -- a file that is loaded, has at most so many records, and passes
 abbrev passing_in : List ℕ → Nine → Allowance → List ℕ → ℕ → Answer Content
@@ -102,7 +110,7 @@ passed f m allow q rows c e = go (loading f m allow) refl e
             rw (← s) (record { loads = l; few = leb-true (length (records_of d)) rows p; passes = eqb-true (examine_pattern q (pattern_of f d)) 0 r })
 
 module _ (f : List ℕ) (m : Nine) (allow : Allowance) (q : List ℕ) (w : Words) (u : Used) (n : ℕ)
-    (e : loaded_of (loaded.Rows u) w ≡ laid m (passing_in f m allow q (n / 2))) where
+    (e : loaded_of (Ok u) w ≡ laid m (passing_in f m allow q (n / 2))) where
   -- the content, which is loaded and passes
   record Has : Type 0 where
     c : Content
@@ -113,7 +121,7 @@ module _ (f : List ℕ) (m : Nine) (allow : Allowance) (q : List ℕ) (w : Words
   has : Has
   has = go (passing_in f m allow q (n / 2)) refl e
     where
-      go : (a : Answer Content) → passing_in f m allow q (n / 2) ≡ a → loaded_of (loaded.Rows u) w ≡ laid m a → Has
+      go : (a : Answer Content) → passing_in f m allow q (n / 2) ≡ a → loaded_of (Ok u) w ≡ laid m a → Has
       go (refused k) l e = let x : ok (counts_of u) ≡ refused k = ap (λ l. l.answer) e in absurd (ok_refused (sym x))
       go (ok c) l e =
           let x : ok (counts_of u) ≡ ok (counts c) = ap (λ l. l.answer) e in
@@ -185,17 +193,17 @@ module _ (f : List ℕ) (m : Nine) (allow : Allowance) (q : List ℕ) (w : Words
             whole_same a z b ∙ sym (follow_is f m allow q n bs h.c (following_same bs h) (refused e) r)
 
 -- a file that is not loaded, or does not pass
-pub stopped : (f : List ℕ) (m : Nine) (allow : Allowance) (q : List ℕ) (w : Words) (k n : ℕ) (bs : List ℕ)
-    → loaded_of (loaded.Refused k) w ≡ laid m (passing_in f m allow q (n / 2)) → (t : List ℕ) → t ≡ replicate n 0 → whole (refused k) w t ≡ follow f m allow q n bs
+pub stopped : (f : List ℕ) (m : Nine) (allow : Allowance) (q : List ℕ) (w : Words) (r : Refusal) (n : ℕ) (bs : List ℕ)
+    → loaded_of (Err r) w ≡ laid m (passing_in f m allow q (n / 2)) → (t : List ℕ) → t ≡ replicate n 0 → whole (refused (number r)) w t ≡ follow f m allow q n bs
 unfolding follow format.frame_table format.laid_frames
-stopped f m allow q w k n bs e t z = go (passing_in f m allow q (n / 2)) refl e
+stopped f m allow q w r n bs e t z = go (passing_in f m allow q (n / 2)) refl e
   where
-    go : (a : Answer Content) → passing_in f m allow q (n / 2) ≡ a → loaded_of (loaded.Refused k) w ≡ laid m a → whole (refused k) w t ≡ follow f m allow q n bs
-    go (ok c) l e = let x : refused k ≡ ok (counts c) = ap (λ l. l.answer) e in absurd (ok_refused x)
+    go : (a : Answer Content) → passing_in f m allow q (n / 2) ≡ a → loaded_of (Err r) w ≡ laid m a → whole (refused (number r)) w t ≡ follow f m allow q n bs
+    go (ok c) l e = let x : refused (number r) ≡ ok (counts c) = ap (λ l. l.answer) e in absurd (ok_refused x)
     go (refused i) l e =
-        let x : ◌≡◌ {A = Answer Counts} (refused k) (refused i) = ap (λ l. l.answer) e in
+        let x : ◌≡◌ {A = Answer Counts} (refused (number r)) (refused i) = ap (λ l. l.answer) e in
         let j : following f m allow q n bs ≡ refused i = following_is f m allow q n bs ∙ ap (λ a. bind a (ran f bs)) l in
-        let same : k ≡ i = cc in
+        let same : number r ≡ i = cc in
         let none_of : n ≡ n - 2 * 0 = omega arith in
         let zeros : replicate {A = ℕ} n 0 ≡ replicate (n - 2 * 0) 0 = ap (λ (x : ℕ). replicate {A = ℕ} x 0) none_of in
         rw (j, ← same) (whole_same refl (ap (λ l. l.tables) e) (z ∙ zeros))

@@ -1,39 +1,19 @@
--- The answers of header reads: the header, or zeros beside the refusal's number.
+-- The headers of the file and of LVAR, DBG and END as the definitions have them.
 -- Assumes nothing.
-use Rattle.std.specs.Prelude.{replicate}
-use Rattle.format.specs.Bytes.{Answer, ok, refused}
 use Rattle.format.specs.Headers.{FileHeader, SectionHeader}
-use Rattle.headers.specs.declared.RiteBinaryHeaderRead.{RiteBinaryHeaderRead}
-use Rattle.headers.specs.declared.SectionMiscHeaderRead.{SectionMiscHeaderRead}
+use Rattle.headers.specs.declared.RiteBinaryHeader.{RiteBinaryHeader}
+use Rattle.headers.specs.declared.SectionMiscHeader.{SectionMiscHeader}
 
-abbrev pub rite_binary_header_of : Answer FileHeader → RiteBinaryHeaderRead
-rite_binary_header_of (ok h) =
+abbrev pub file_header_of : RiteBinaryHeader → FileHeader
+file_header_of h =
     record {
-      refusal = 0;
-      header =
-          record {
-            ident = h.ident;
-            major_version = h.major;
-            minor_version = h.minor;
-            size = h.size;
-            compiler_name = h.compiler;
-            compiler_version = h.version;
-          };
-    }
-rite_binary_header_of (refused e) =
-    record {
-      refusal = e;
-      header =
-          record {
-            ident = replicate 4 0;
-            major_version = replicate 2 0;
-            minor_version = replicate 2 0;
-            size = replicate 4 0;
-            compiler_name = replicate 4 0;
-            compiler_version = replicate 4 0;
-          };
+      ident = h.ident;
+      major = h.major_version;
+      minor = h.minor_version;
+      size = h.size;
+      compiler = h.compiler_name;
+      version = h.compiler_version;
     }
 
-abbrev pub section_misc_header_of : Answer SectionHeader → SectionMiscHeaderRead
-section_misc_header_of (ok h) = record { refusal = 0; header = record { ident = h.mark; size = h.size } }
-section_misc_header_of (refused e) = record { refusal = e; header = record { ident = replicate 4 0; size = replicate 4 0 } }
+abbrev pub section_header_of : SectionMiscHeader → SectionHeader
+section_header_of h = record { mark = h.ident; size = h.size }

@@ -3,9 +3,11 @@
 
 ghost use Rattle.std.specs.Prelude.{◌≡◌};
 ghost use Rattle.format.specs.Headers.{irep_header, record_header, handler_header};
-ghost use Rattle.headers_irep.specs.Headers.{section_irep_header_of, irep_record_of, irep_catch_handler_of};
+ghost use Rattle.refusal.specs.Number.{answer_as};
+ghost use Rattle.headers_irep.specs.Headers.{irep_header_of, irep_record_of, irep_catch_handler_of};
 
-use headers::{four, two};
+use binfmt::bytes_at;
+use refusal::Refusal;
 
 // The header of an IREP section.
 #[derive(Drop)]
@@ -15,35 +17,18 @@ pub struct SectionIrepHeader {
     pub rite_version: [u8; 4],
 }
 
-// A header, or zeros beside the refusal's number; 0 for no refusal.
-#[derive(Drop)]
-pub struct SectionIrepHeaderRead {
-    pub refusal: u8,
-    pub header: SectionIrepHeader,
-}
-
 impl SectionIrepHeader {
-    pub fn from_bytes(buf: &[u8]) -> SectionIrepHeaderRead
-        ensures { result ≡ section_irep_header_of (irep_header buf.now) }
+    pub fn from_bytes(buf: &[u8]) -> Result<SectionIrepHeader, Refusal>
+        ensures { answer_as irep_header_of result ≡ irep_header buf.now }
     {
         if buf.len() < 12 {
-            return SectionIrepHeaderRead {
-                refusal: 7,
-                header: SectionIrepHeader {
-                    ident: [0; 4],
-                    size: [0; 4],
-                    rite_version: [0; 4],
-                },
-            };
+            return Err(Refusal::PastEnd);
         }
-        SectionIrepHeaderRead {
-            refusal: 0,
-            header: SectionIrepHeader {
-                ident: four(buf, 0),
-                size: four(buf, 4),
-                rite_version: four(buf, 8),
-            },
-        }
+        Ok(SectionIrepHeader {
+            ident: bytes_at(buf, 0),
+            size: bytes_at(buf, 4),
+            rite_version: bytes_at(buf, 8),
+        })
     }
 }
 
@@ -58,41 +43,21 @@ pub struct IrepRecord {
     pub ilen: [u8; 4],
 }
 
-// A header, or zeros beside the refusal's number; 0 for no refusal.
-#[derive(Drop)]
-pub struct IrepRecordRead {
-    pub refusal: u8,
-    pub header: IrepRecord,
-}
-
 impl IrepRecord {
-    pub fn from_bytes(buf: &[u8]) -> IrepRecordRead
-        ensures { result ≡ irep_record_of (record_header buf.now) }
+    pub fn from_bytes(buf: &[u8]) -> Result<IrepRecord, Refusal>
+        ensures { answer_as irep_record_of result ≡ record_header buf.now }
     {
         if buf.len() < 16 {
-            return IrepRecordRead {
-                refusal: 7,
-                header: IrepRecord {
-                    size: [0; 4],
-                    nlocals: [0; 2],
-                    nregs: [0; 2],
-                    rlen: [0; 2],
-                    clen: [0; 2],
-                    ilen: [0; 4],
-                },
-            };
+            return Err(Refusal::PastEnd);
         }
-        IrepRecordRead {
-            refusal: 0,
-            header: IrepRecord {
-                size: four(buf, 0),
-                nlocals: two(buf, 4),
-                nregs: two(buf, 6),
-                rlen: two(buf, 8),
-                clen: two(buf, 10),
-                ilen: four(buf, 12),
-            },
-        }
+        Ok(IrepRecord {
+            size: bytes_at(buf, 0),
+            nlocals: bytes_at(buf, 4),
+            nregs: bytes_at(buf, 6),
+            rlen: bytes_at(buf, 8),
+            clen: bytes_at(buf, 10),
+            ilen: bytes_at(buf, 12),
+        })
     }
 }
 
@@ -105,36 +70,18 @@ pub struct IrepCatchHandler {
     pub target: [u8; 4],
 }
 
-// A handler, or zeros beside the refusal's number; 0 for no refusal.
-#[derive(Drop)]
-pub struct IrepCatchHandlerRead {
-    pub refusal: u8,
-    pub header: IrepCatchHandler,
-}
-
 impl IrepCatchHandler {
-    pub fn from_bytes(buf: &[u8]) -> IrepCatchHandlerRead
-        ensures { result ≡ irep_catch_handler_of (handler_header buf.now) }
+    pub fn from_bytes(buf: &[u8]) -> Result<IrepCatchHandler, Refusal>
+        ensures { answer_as irep_catch_handler_of result ≡ handler_header buf.now }
     {
         if buf.len() < 13 {
-            return IrepCatchHandlerRead {
-                refusal: 7,
-                header: IrepCatchHandler {
-                    type_: 0,
-                    begin: [0; 4],
-                    end: [0; 4],
-                    target: [0; 4],
-                },
-            };
+            return Err(Refusal::PastEnd);
         }
-        IrepCatchHandlerRead {
-            refusal: 0,
-            header: IrepCatchHandler {
-                type_: buf[0],
-                begin: four(buf, 1),
-                end: four(buf, 5),
-                target: four(buf, 9),
-            },
-        }
+        Ok(IrepCatchHandler {
+            type_: buf[0],
+            begin: bytes_at(buf, 1),
+            end: bytes_at(buf, 5),
+            target: bytes_at(buf, 9),
+        })
     }
 }

@@ -1,12 +1,9 @@
--- What fetch answers, case by case, in the format's terms.
+-- A fetched instruction as the definitions have it.
 -- Assumes nothing.
 use Rattle.std.specs.Prelude.{[], ◌∷◌}
-use Rattle.format.specs.Bytes.{Answer, ok, refused}
 use Rattle.format.specs.Insn as format
 use Rattle.insn.specs.declared.Fetched.{Fetched}
 use Rattle.insn.specs.declared.Fetched.TheVariants.{Z, BB, B, BS, BSS, BBB, S, W}
-use Rattle.insn.specs.declared.FetchAnswer.{FetchAnswer}
-use Rattle.insn.specs.declared.FetchAnswer.TheVariants.{Ok, Refused}
 
 abbrev pub fetched_of : Fetched → format.Insn
 fetched_of Z = format.insn format.Z []
@@ -17,7 +14,3 @@ fetched_of (BSS a s t) = format.insn format.BSS (a ∷ s ∷ t ∷ [])
 fetched_of (BBB a b c) = format.insn format.BBB (a ∷ b ∷ c ∷ [])
 fetched_of (S s) = format.insn format.S (s ∷ [])
 fetched_of (W w) = format.insn format.W (w ∷ [])
-
-abbrev pub answer_of : FetchAnswer → Answer format.Insn
-answer_of (Ok f) = ok (fetched_of f)
-answer_of (Refused n) = refused n

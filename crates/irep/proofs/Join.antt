@@ -10,23 +10,21 @@ use mathlib.Core.List.{List, [], ◌∷◌, ◌++◌, append_assoc, append-nil}
 use lib.Dec.{leb, eqb}
 use lib.ListN.{length, length-append}
 use borrow.Author.Tests.{leb-true, leb-false, eq-eqb, ne_eqb}
-use Rattle.format.specs.Bytes.{ok, refused, bind, has, u32_at}
+use Rattle.format.specs.Bytes.{ok, refused, bind, on_answer, has, u32_at}
 use Rattle.format.specs.Reading.{Read, reading, Part, part, and_then, in_turn}
 use Rattle.format.specs.Rows.{RecordRow, HandlerRow, PoolRow, TextRow, record_width, record_words, handler_words, pool_words, text_words, table_of}
 use Rattle.format.specs.Irep.{handler, pool_entry, symbol_text, counted, head_at, Body, body, Rec, body_at, record_at, records_from, irep_section}
 use Rattle.format.specs.Tree.{alone}
 use Rattle.format.specs.Load.{Before, start, record_row, record_rows, gathered, Nine}
-use Rattle.rows.specs.declared.Rows.TheVariants as rows
-use Rattle.rows.specs.declared.Row.TheVariants.{Pool, Symbol}
-use Rattle.rows.specs.Table.{out, row_count, times}
-use Rattle.rows.specs.Rows.{handler_of, pool_of, symbol_of, counted_of}
-use Rattle.rows.proofs.Join.{Ran, RowsRan, length_table, put_there, times_ran, counted_ran, handler_agrees, pool_agrees, symbol_agrees}
+use Rattle.rows.specs.declared.Row.TheVariants.{Handler, Pool, Symbol}
+use Rattle.rows.specs.Table.{out, next, row_count, times}
+use Rattle.rows.specs.Rows.{row_of, counted_of}
+use Rattle.rows.proofs.Join.{Ran, RowsRan, length_table, put_there, times_ran, counted_ran}
 use Rattle.irep.specs.declared.Limits.{Limits}
 use Rattle.irep.specs.declared.Used.{Used}
-use Rattle.irep.specs.declared.Content.TheVariants as content
-use Rattle.irep.specs.declared.Reached.TheVariants as reached
-use Rattle.irep.specs.declared.Section.TheVariants as section
-use Rattle.irep.specs.Record.{unused, Lent, lent, Lists, lists, placed, Run, run, SectionRun, section_run, on_content, on_reached, row_is, body_of, finish_of, record_of, records_of, irep_of}
+use Rattle.irep.specs.declared.Reached.{Reached}
+use Rattle.irep.specs.declared.Section.{Section}
+use Rattle.irep.specs.Record.{unused, reached, section, Lent, lent, Lists, lists, placed, Run, run, row_is, body_of, finish_of, record_of, records_of, irep_of}
 
 -- the rows that the four tables hold
 pub record Held : Type 0 where
@@ -78,8 +76,8 @@ module _ (limit : Limits) (m : Nine) where
   abbrev BodyRan : Held → Part Body → Lists → Type 0
   BodyRan b p o =
       Ran p.end (Room limit.most m (grow b p.it))
-      (λ at. o ≡ lists (content.Read (used_of (grow b p.it))) (lent_of m (grow b p.it)).handlers (lent_of m (grow b p.it)).pool (lent_of m (grow b p.it)).symbols)
-      (λ k. o.ans ≡ content.Refused k)
+      (λ at. o ≡ lists (ok (used_of (grow b p.it))) (lent_of m (grow b p.it)).handlers (lent_of m (grow b p.it)).pool (lent_of m (grow b p.it)).symbols)
+      (λ k. o.ans ≡ refused k)
 
   module _ (f : List ℕ) (base clen at : ℕ) (b : Held) (rm : Room limit.most m b) where
     abbrev O : Lists
@@ -99,9 +97,9 @@ module _ (limit : Limits) (m : Nine) where
 
     after_pool : (a c : ℕ) → hr.end ≡ ok a → (pr a).end ≡ ok c
         → length (b.handlers ++ hr.rows) ≤ row_count m.handlers 4 → length (b.pool ++ (pr a).rows) ≤ row_count m.pool 3
-        → times (handler_of f) clen at (length b.handlers) (lent_of m b).handlers ≡ out (rows.Next a (length (b.handlers ++ hr.rows)))
+        → times (row_of f base Handler) clen at (length b.handlers) (lent_of m b).handlers ≡ out (next a (length (b.handlers ++ hr.rows)))
         (table_of handler_words m.handlers (b.handlers ++ hr.rows))
-        → counted_of f base Pool a (length b.pool) (lent_of m b).pool ≡ out (rows.Next c (length (b.pool ++ (pr a).rows))) (table_of pool_words m.pool (b.pool ++ (pr a).rows))
+        → counted_of f base Pool a (length b.pool) (lent_of m b).pool ≡ out (next c (length (b.pool ++ (pr a).rows))) (table_of pool_words m.pool (b.pool ++ (pr a).rows))
         → RowsRan text_words 2 (λ _. refl) (omega arith) m.symbols b.symbols (sr c) (counted_of f base Symbol c (length b.symbols) (lent_of m b).symbols)
         → BodyRan b P O
     unfolding body_of body_at
@@ -110,46 +108,46 @@ module _ (limit : Limits) (m : Nine) where
     after_pool a c p q x y d e (Ran.full t g) = rw (p, q, d, e, g) (Ran.full (λ r. t r.symbols) refl)
 
     after_handlers : (a : ℕ) → hr.end ≡ ok a → length (b.handlers ++ hr.rows) ≤ row_count m.handlers 4
-        → times (handler_of f) clen at (length b.handlers) (lent_of m b).handlers ≡ out (rows.Next a (length (b.handlers ++ hr.rows)))
+        → times (row_of f base Handler) clen at (length b.handlers) (lent_of m b).handlers ≡ out (next a (length (b.handlers ++ hr.rows)))
         (table_of handler_words m.handlers (b.handlers ++ hr.rows))
         → RowsRan pool_words 3 (λ _. refl) (omega arith) m.pool b.pool (pr a) (counted_of f base Pool a (length b.pool) (lent_of m b).pool)
         → BodyRan b P O
     unfolding body_of body_at counted_of
     after_handlers a p x d (Ran.went c q y e) =
         after_pool a c p q x y d e
-        (counted_ran text_words 2 (λ _. refl) (omega arith) m.symbols (symbol_of f base) (symbol_text f base) (symbol_agrees f base) f c b.symbols rm.symbols)
+        (counted_ran text_words 2 (λ _. refl) (omega arith) m.symbols (row_of f base Symbol) (symbol_text f base) (λ _ _ _. refl) f c b.symbols rm.symbols)
     after_handlers a p x d (Ran.stop k q y e) =
         rw (p, q, d, e) (Ran.stop k refl (record { within = rm.within; records = rm.records; handlers = x; pool = y; symbols = rw append-nil rm.symbols }) refl)
     after_handlers a p x d (Ran.full y e) = rw (p, d, e) (Ran.full (λ r. y r.pool) refl)
 
-    by_handlers : RowsRan handler_words 4 (λ _. refl) (omega arith) m.handlers b.handlers hr (times (handler_of f) clen at (length b.handlers) (lent_of m b).handlers) → BodyRan b P O
+    by_handlers : RowsRan handler_words 4 (λ _. refl) (omega arith) m.handlers b.handlers hr (times (row_of f base Handler) clen at (length b.handlers) (lent_of m b).handlers) → BodyRan b P O
     unfolding body_of body_at counted_of
     by_handlers (Ran.went a p x d) =
         after_handlers a p x d
-        (counted_ran pool_words 3 (λ _. refl) (omega arith) m.pool (pool_of f base) (pool_entry f base) (pool_agrees f base) f a b.pool rm.pool)
+        (counted_ran pool_words 3 (λ _. refl) (omega arith) m.pool (row_of f base Pool) (pool_entry f base) (λ _ _ _. refl) f a b.pool rm.pool)
     by_handlers (Ran.stop k p x d) =
         rw (p, d) (Ran.stop k refl (record { within = rm.within; records = rm.records; handlers = x; pool = rw append-nil rm.pool; symbols = rw append-nil rm.symbols }) refl)
     by_handlers (Ran.full x d) = rw d (Ran.full (λ r. x r.handlers) refl)
 
     body_ran : BodyRan b P O
-    body_ran = by_handlers (times_ran handler_words 4 (λ _. refl) (omega arith) m.handlers (handler_of f) (handler f) (handler_agrees f) clen at b.handlers rm.handlers)
+    body_ran = by_handlers (times_ran handler_words 4 (λ _. refl) (omega arith) m.handlers (row_of f base Handler) (handler f) (λ _ _ _. refl) clen at b.handlers rm.handlers)
 
   -- a record's row says its lists
   row_words : (f : List ℕ) (at place : ℕ) (b : Held) (x : Body)
       → record_words (row_is (head_at f at) place (used_of b) (used_of (grow b x))) ≡ record_words (row_in b (record { head = head_at f at; place = place; body = x }))
   row_words f at place b x = rw (length-append, length-append, length-append, add-sub_cancel_left, add-sub_cancel_left, add-sub_cancel_left)
 
-  abbrev RecordRan : Held → Part Rec → Run → Type 0
+  abbrev RecordRan : Held → Part Rec → Run Reached → Type 0
   RecordRan b p o =
       Ran p.end (Room limit.most m (put b p.it))
-      (λ at. o ≡ run (reached.Next at (used_of (put b p.it))) (lent_of m (put b p.it)))
-      (λ k. o.ans ≡ reached.Refused k)
+      (λ at. o ≡ run (ok (reached at (used_of (put b p.it)))) (lent_of m (put b p.it)))
+      (λ k. o.ans ≡ refused k)
 
   module _ (f : List ℕ) (base at : ℕ) (b : Held) (rm : Room limit.most m b) (there : has f at 16 ≡ true) where
     abbrev Q : Part Rec
     Q = record_at f base (limit.allowed - length b.records) at
 
-    abbrev OO : Run
+    abbrev OO : Run Reached
     OO = record_of f base limit at (lent_of m b) (used_of b)
 
     abbrev row_more : (r : Rec) → length (b.records ++ row_in b r ∷ []) ≡ length b.records + 1
@@ -180,13 +178,13 @@ module _ (limit : Limits) (m : Nine) where
       the_rec x = record { head = head_at f at; place = base + (at + 16); body = x }
 
       finish_zero : (x : Body) → eqb (head_at f at).size 0 ≡ true
-          → finish_of (head_at f at) base at (lent_of m b).records (used_of b) (used_of (grow b x)) ≡ placed (reached.Refused 8) (lent_of m b).records
+          → finish_of (head_at f at) base at (lent_of m b).records (used_of b) (used_of (grow b x)) ≡ placed (refused 8) (lent_of m b).records
       unfolding finish_of
       finish_zero x z = rw z
 
       finish_there : (x : Body) → eqb (head_at f at).size 0 ≡ false
           → finish_of (head_at f at) base at (lent_of m b).records (used_of b) (used_of (grow b x)) ≡ placed
-          (reached.Next (at + (head_at f at).size) (used_of (put b (the_rec x)))) (lent_of m (put b (the_rec x))).records
+          (ok (reached (at + (head_at f at).size) (used_of (put b (the_rec x))))) (lent_of m (put b (the_rec x))).records
       unfolding finish_of
       finish_there x z =
           let next = at + (head_at f at).size in
@@ -200,11 +198,11 @@ module _ (limit : Limits) (m : Nine) where
         abbrev Y : Lists
         Y = body_of f base (head_at f at).clen (at + 16 + (head_at f at).ilen) (lent_of m b).handlers (lent_of m b).pool (lent_of m b).symbols (used_of b)
 
-        abbrev through : Lists → Run
+        abbrev through : Lists → Run Reached
         through o =
-            on_content o.ans
+            on_answer o.ans
             (λ v. let p = finish_of (head_at f at) base at (lent_of m b).records (used_of b) v in run p.ans (lent p.records o.handlers o.pool o.symbols))
-            (λ k. run (reached.Refused k) (lent (lent_of m b).records o.handlers o.pool o.symbols))
+            (λ k. run (refused k) (lent (lent_of m b).records o.handlers o.pool o.symbols))
 
         run_is : OO ≡ through Y
         unfolding record_of
@@ -218,7 +216,7 @@ module _ (limit : Limits) (m : Nine) where
         more_room r = record { within = limit' (the_rec X.it); records = records' (the_rec X.it); handlers = r.handlers; pool = r.pool; symbols = r.symbols }
 
         by_size : (a : ℕ) → X.end ≡ ok a → Room limit.most m (grow b X.it)
-            → Y ≡ lists (content.Read (used_of (grow b X.it))) (lent_of m (grow b X.it)).handlers (lent_of m (grow b X.it)).pool (lent_of m (grow b X.it)).symbols
+            → Y ≡ lists (ok (used_of (grow b X.it))) (lent_of m (grow b X.it)).handlers (lent_of m (grow b X.it)).pool (lent_of m (grow b X.it)).symbols
             → (c : Bool) → eqb (head_at f at).size 0 ≡ c → RecordRan b Q OO
         by_size a e r d true z = rw (run_is, read_is, d, finish_zero X.it z, e, z) (Ran.stop 8 refl (more_room r) refl)
         by_size a e r d false z = rw (run_is, read_is, d, finish_there X.it z, e, z) (Ran.went _ refl (more_room r) refl)
@@ -266,11 +264,11 @@ module _ (limit : Limits) (m : Nine) where
     record_ran : RecordRan b Q OO
     record_ran = by_limit (leb limit.most (length b.records)) refl
 
-  abbrev RecordsRan : Held → Read Rec → Run → Type 0
+  abbrev RecordsRan : Held → Read Rec → Run Reached → Type 0
   RecordsRan b r o =
       Ran r.end (Room limit.most m (put_all b r.rows))
-      (λ at. o ≡ run (reached.Next at (used_of (put_all b r.rows))) (lent_of m (put_all b r.rows)))
-      (λ k. o.ans ≡ reached.Refused k)
+      (λ at. o ≡ run (ok (reached at (used_of (put_all b r.rows)))) (lent_of m (put_all b r.rows)))
+      (λ k. o.ans ≡ refused k)
 
   -- room for more is room for less
   room_back : (b : Held) (r : Rec) → Room limit.most m (put b r) → Room limit.most m b
@@ -347,11 +345,11 @@ held rs =
 
 module _ (limit : Limits) (m : Nine) where
   -- how a run of the section goes with a reading of it
-  abbrev pub IrepRan : Read Rec → SectionRun → Type 0
+  abbrev pub IrepRan : Read Rec → Run Section → Type 0
   IrepRan r o =
       Ran r.end (Room limit.most m (held r.rows))
-      (λ size. o ≡ section_run (section.Next size (used_of (held r.rows))) (lent_of m (held r.rows)))
-      (λ k. o.ans ≡ section.Refused k)
+      (λ size. o ≡ run (ok (section size (used_of (held r.rows)))) (lent_of m (held r.rows)))
+      (λ k. o.ans ≡ refused k)
 
   empty_room : Room limit.most m (held [])
   empty_room = record { within = omega arith; records = omega arith; handlers = omega arith; pool = omega arith; symbols = omega arith }
@@ -363,7 +361,7 @@ module _ (limit : Limits) (m : Nine) where
     abbrev r : Read Rec
     r = records_from f base size (length f) limit.allowed 12
 
-    abbrev o : Run
+    abbrev o : Run Reached
     o = records_of f base size limit (length f) 12 (lent_of m (held [])) unused
 
     abbrev Goal : Type 0
@@ -371,7 +369,7 @@ module _ (limit : Limits) (m : Nine) where
 
     module _ (there : has f 0 12 ≡ true) (inside : leb size (length f) ≡ true) where
       section_run_lem : irep_of f base limit (lent_of m (held []))
-          ≡ on_reached o.ans (λ _ u. cond (eqb size 0) (section_run (section.Refused 8) o.tabs) (section_run (section.Next size u) o.tabs)) (λ k. section_run (section.Refused k) o.tabs)
+          ≡ on_answer o.ans (λ x. cond (eqb size 0) (run (refused 8) o.tabs) (run (ok (section size x.used)) o.tabs)) (λ k. run (refused k) o.tabs)
       unfolding irep_of
       section_run_lem = rw (there, inside)
 
@@ -379,7 +377,7 @@ module _ (limit : Limits) (m : Nine) where
       unfolding irep_section
       section_read = rw (there, inside)
 
-      by_zero : (at : ℕ) → r.end ≡ ok at → Room limit.most m (held r.rows) → o ≡ run (reached.Next at (used_of (held r.rows))) (lent_of m (held r.rows)) → (c : Bool) → eqb size 0 ≡ c → Goal
+      by_zero : (at : ℕ) → r.end ≡ ok at → Room limit.most m (held r.rows) → o ≡ run (ok (reached at (used_of (held r.rows)))) (lent_of m (held r.rows)) → (c : Bool) → eqb size 0 ≡ c → Goal
       by_zero at e x d true z = rw (section_run_lem, section_read, d, e, z) (Ran.stop 8 refl x refl)
       by_zero at e x d false z = rw (section_run_lem, section_read, d, e, z) (Ran.went size refl x refl)
 

@@ -1,15 +1,19 @@
 // The records of an IREP section, read into four lent tables: records, handlers, pool entries and symbols.
+// The tables stay four parameters: in a struct of references each contract would also say that the four of them stay the same.
 #![tactic(auto)]
 
 ghost use Rattle.std.specs.Prelude.{◌≡◌, ◌+◌, ◌≤◌, length};
+ghost use Rattle.format.specs.Bytes.{reads};
 ghost use Rattle.format.specs.Rows.{record_words};
 ghost use Rattle.format.specs.Irep.{head_at};
-ghost use Rattle.irep.specs.Record.{head_of, head_of_bytes, lent, lists, placed, run, section_run, row_is, body_of, finish_of, record_of, records_of, irep_of};
+ghost use Rattle.refusal.specs.Number.{answer_of, answer_as};
+ghost use Rattle.irep.specs.Record.{unused, head_of, range_of, lent, lists, placed, run, row_is, body_of, finish_of, record_of, records_of, irep_of};
 
 use binfmt::{be16_to_u16, be32_to_u32, rest};
 use format::{NO_PARENT, RECORD_WIDTH};
 use headers_irep::{IrepRecord, SectionIrepHeader};
-use rows::{Row, Rows, first_row, minus, put_row, read_counted, read_rows, row_count};
+use refusal::Refusal;
+use rows::{Part, Row, first_row, put_row, row_count};
 
 // How far a load may go: the bytes and the records that the caller allows, and how many records there can be.
 #[derive(Clone, Copy)]
@@ -20,7 +24,7 @@ pub struct Limits {
 }
 
 // How many rows of each table are used.
-#[derive(Clone, Copy)]
+#[derive(Clone, Copy, Default)]
 pub struct Used {
     pub records: u32,
     pub handlers: u32,
@@ -29,7 +33,7 @@ pub struct Used {
 }
 
 // A record's header as numbers.
-#[derive(Drop)]
+#[derive(Clone, Copy)]
 struct Header {
     size: u32,
     nlocals: u32,
@@ -39,55 +43,42 @@ struct Header {
     ilen: u32,
 }
 
-// The rows used after a record's lists, or a refusal's number.
-#[derive(Drop)]
-enum Content {
-    Read(Used),
-    Refused(u8),
+// The next record's place, and the rows used.
+#[derive(Clone, Copy)]
+struct Reached {
+    at: usize,
+    used: Used,
 }
 
-// The next record's place and the rows used, or a refusal's number.
-#[derive(Drop)]
-enum Reached {
-    Next { at: usize, used: Used },
-    Refused(u8),
-}
-
-// The section's size and the rows used, or a refusal's number.
-#[derive(Drop)]
-pub enum Section {
-    Next { size: u32, used: Used },
-    Refused(u8),
-}
-
-// The numbers of a record's header fields.
-fn header_numbers(h: IrepRecord) -> Header
-    ensures { head_of result ≡ head_of_bytes h }
-{
-    let size = h.size;
-    let nlocals = h.nlocals;
-    let nregs = h.nregs;
-    let rlen = h.rlen;
-    let clen = h.clen;
-    let ilen = h.ilen;
-    Header {
-        size: be32_to_u32(size),
-        nlocals: be16_to_u16(nlocals) as u32,
-        nregs: be16_to_u16(nregs) as u32,
-        rlen: be16_to_u16(rlen) as u32,
-        clen: be16_to_u16(clen) as u32,
-        ilen: be32_to_u32(ilen),
-    }
+// The section's size, and the rows used.
+#[derive(Clone, Copy)]
+pub struct Section {
+    pub size: u32,
+    pub used: Used,
 }
 
 // The header of the record at a place.
-fn read_header(f: &[u8], at: usize) -> Header
-    requires { at + 16 ≤ length f.now }
-    ensures { head_of result ≡ head_at f.now at }
+fn read_header(f: &[u8], at: usize) -> Result<Header, Refusal>
+    requires { at ≤ length f.now }
+    ensures { answer_as head_of result ≡ reads f.now at 16 (head_at f.now at) }
 {
-    let read = IrepRecord::from_bytes(&f[at..]);
-    let h = read.header;
-    header_numbers(h)
+    let h = IrepRecord::from_bytes(&f[at..])?;
+    Ok(Header {
+        size: be32_to_u32(h.size),
+        nlocals: be16_to_u16(h.nlocals) as u32,
+        nregs: be16_to_u16(h.nregs) as u32,
+        rlen: be16_to_u16(h.rlen) as u32,
+        clen: be16_to_u16(h.clen) as u32,
+        ilen: be32_to_u32(h.ilen),
+    })
+}
+
+// The first row and the number of the rows that are used after, and were not before.
+fn range(before: u32, after: u32) -> [u32; 2]
+    ensures { result ≡ range_of before after }
+{
+    let n = after.saturating_sub(before);
+    [first_row(before, n), n]
 }
 
 // A record's row: its header, its instructions' place, and first row and number of its handlers, pool entries and symbols; those of its
@@ -95,12 +86,9 @@ fn read_header(f: &[u8], at: usize) -> Header
 fn record_row(h: Header, place: u32, u: Used, v: Used) -> [u32; RECORD_WIDTH]
     ensures { result ≡ record_words (row_is (head_of h) place u v) }
 {
-    let nh = minus(v.handlers, u.handlers);
-    let np = minus(v.pool, u.pool);
-    let ns = minus(v.symbols, u.symbols);
-    let fh = first_row(u.handlers, nh);
-    let fp = first_row(u.pool, np);
-    let fs = first_row(u.symbols, ns);
+    let [fh, nh] = range(u.handlers, v.handlers);
+    let [fp, np] = range(u.pool, v.pool);
+    let [fs, ns] = range(u.symbols, v.symbols);
     [
         h.size, h.nlocals, h.nregs, h.rlen, h.clen, h.ilen, place, fh, nh, fp, np, fs, ns, 0, 0, 0,
         0, 0, 0, 0, NO_PARENT,
@@ -108,189 +96,143 @@ fn record_row(h: Header, place: u32, u: Used, v: Used) -> [u32; RECORD_WIDTH]
 }
 
 // A record's handlers, pool and symbols, from the place after its instructions.
+#[tactic(auto, unfolding(crate::specs::Record::body_of))]
 fn read_body(
-    f: &[u8],
-    base: usize,
+    part: Part,
     clen: usize,
     at: usize,
     handlers: &mut [u32],
     pool: &mut [u32],
     symbols: &mut [u32],
     u: Used,
-) -> Content
-    requires { base + length f.now ≤ 65536 }
-    ensures { lists result handlers.new pool.new symbols.new
-        ≡ body_of f.now base clen at handlers.old pool.old symbols.old u }
+) -> Result<Used, Refusal>
+    ensures { lists (answer_of result) handlers.new pool.new symbols.new
+        ≡ body_of part.entry.bytes.now part.entry.base clen at handlers.old pool.old symbols.old u }
 {
-    match read_rows(f, base, Row::Handler, clen, at, handlers, u.handlers) {
-        Rows::Next { at: a, used: h } => match read_counted(f, base, Row::Pool, a, pool, u.pool) {
-            Rows::Next { at: b, used: p } => match read_counted(
-                f,
-                base,
-                Row::Symbol,
-                b,
-                symbols,
-                u.symbols,
-            ) {
-                Rows::Next { at: _, used: s } => Content::Read(Used {
-                    records: u.records,
-                    handlers: h,
-                    pool: p,
-                    symbols: s,
-                }),
-                Rows::Refused(k) => Content::Refused(k),
-            },
-            Rows::Refused(k) => Content::Refused(k),
-        },
-        Rows::Refused(k) => Content::Refused(k),
-    }
+    let h = part.read_rows(Row::Handler, clen, at, handlers, u.handlers)?;
+    let p = part.read_counted(Row::Pool, h.at, pool, u.pool)?;
+    let s = part.read_counted(Row::Symbol, p.at, symbols, u.symbols)?;
+    Ok(Used {
+        handlers: h.used,
+        pool: p.used,
+        symbols: s.used,
+        ..u
+    })
 }
 
-// Writes the record's row and goes on at the next record; 8 where the size is 0.
-fn finish(h: Header, base: usize, at: usize, records: &mut [u32], u: Used, v: Used) -> Reached
+// Writes the record's row and goes on at the next record; refused where the size is 0.
+#[tactic(auto, unfolding(crate::specs::Record::finish_of))]
+fn finish(
+    h: Header,
+    base: usize,
+    at: usize,
+    records: &mut [u32],
+    u: Used,
+    v: Used,
+) -> Result<Reached, Refusal>
     requires { base + at ≤ 65536 }
-    ensures { placed result records.new ≡ finish_of (head_of h) base at records.old u v }
+    ensures { placed (answer_of result) records.new ≡ finish_of (head_of h) base at records.old u v }
 {
-    let size = h.size;
-    if size == 0 {
-        return Reached::Refused(8);
+    if h.size == 0 {
+        return Err(Refusal::SizeZero);
     }
     let row = record_row(h, (base + (at + 16)) as u32, u, v);
-    match put_row(records, u.records, &row, at + (size as usize)) {
-        Rows::Next { at: next, used: n } => Reached::Next {
-            at: next,
-            used: Used {
-                records: n,
-                handlers: v.handlers,
-                pool: v.pool,
-                symbols: v.symbols,
-            },
+    let rows = put_row(records, u.records, &row, at + (h.size as usize))?;
+    Ok(Reached {
+        at: rows.at,
+        used: Used {
+            records: rows.used,
+            ..v
         },
-        Rows::Refused(k) => Reached::Refused(k),
-    }
+    })
 }
 
 // One record. Its row is needed once its 16 bytes are read.
+#[tactic(auto, unfolding(crate::specs::Record::record_of))]
 fn read_record(
-    f: &[u8],
-    base: usize,
+    part: Part,
     limit: Limits,
-    at: usize,
+    from: Reached,
     records: &mut [u32],
     handlers: &mut [u32],
     pool: &mut [u32],
     symbols: &mut [u32],
-    u: Used,
-) -> Reached
-    requires { base + length f.now ≤ 65536 }
-    ensures { run result (lent records.new handlers.new pool.new symbols.new)
-        ≡ record_of f.now base limit at (lent records.old handlers.old pool.old symbols.old) u }
+) -> Result<Reached, Refusal>
+    requires { from.at ≤ length part.bytes.now }
+    ensures { run (answer_of result) (lent records.new handlers.new pool.new symbols.new)
+        ≡ record_of part.entry.bytes.now part.entry.base limit from.at (lent records.old handlers.old pool.old symbols.old) from.used }
 {
-    if rest(f, at) < 16 {
-        return Reached::Refused(7);
-    }
-    let h = read_header(f, at);
+    let f = part.bytes;
+    let at = from.at;
+    let u = from.used;
+    let h = read_header(f, at)?;
     if limit.most <= u.records {
-        return Reached::Refused(14);
+        return Err(Refusal::NoRow);
     }
     if row_count(records.len(), RECORD_WIDTH) <= u.records {
-        return Reached::Refused(14);
+        return Err(Refusal::NoRow);
     }
     if limit.allowed <= u.records {
-        return Reached::Refused(29);
+        return Err(Refusal::Allowance);
     }
     if rest(f, at + 16) < (h.ilen as usize) {
-        return Reached::Refused(7);
+        return Err(Refusal::PastEnd);
     }
-    match read_body(
-        f,
-        base,
-        h.clen as usize,
-        at + 16 + (h.ilen as usize),
-        handlers,
-        pool,
-        symbols,
-        u,
-    ) {
-        Content::Read(v) => finish(h, base, at, records, u, v),
-        Content::Refused(k) => Reached::Refused(k),
-    }
+    let code_end = at + 16 + (h.ilen as usize);
+    let v = read_body(part, h.clen as usize, code_end, handlers, pool, symbols, u)?;
+    finish(h, part.base, at, records, u, v)
 }
 
-// The records from a place on, while it is below the section's size.
+// The records, while the place is below the section's size.
 fn read_records(
-    f: &[u8],
-    base: usize,
+    part: Part,
     size: usize,
     limit: Limits,
-    from: usize,
     records: &mut [u32],
     handlers: &mut [u32],
     pool: &mut [u32],
     symbols: &mut [u32],
-    u: Used,
-) -> Reached
-    requires { (base + length f.now ≤ 65536) × (size ≤ length f.now) }
-    ensures { run result (lent records.new handlers.new pool.new symbols.new)
-        ≡ records_of f.now base size limit (length f.now) from (lent records.old handlers.old pool.old symbols.old) u }
+) -> Result<Reached, Refusal>
+    requires { size ≤ length part.bytes.now }
+    ensures { run (answer_of result) (lent records.new handlers.new pool.new symbols.new)
+        ≡ records_of part.entry.bytes.now part.entry.base size limit (length part.entry.bytes.now) 12
+        (lent records.old handlers.old pool.old symbols.old) unused }
 {
-    let mut at = from;
-    let mut used = u;
-    while at < size {
-        match read_record(f, base, limit, at, records, handlers, pool, symbols, used) {
-            Reached::Next { at: next, used: v } => {
-                at = next;
-                used = v;
-            }
-            Reached::Refused(k) => {
-                return Reached::Refused(k);
-            }
-        }
+    let mut reached = Reached {
+        at: 12,
+        used: Used::default(),
+    };
+    // A loop with a test: how many records there are is not known before.
+    while reached.at < size {
+        reached = read_record(part, limit, reached, records, handlers, pool, symbols)?;
     }
-    Reached::Next { at, used }
+    Ok(reached)
 }
 
 // The section at the start of the part, over tables of which no row is used; its size is tested before its records.
+#[tactic(auto, unfolding(crate::specs::Record::irep_of))]
 pub fn section_irep_1(
-    f: &[u8],
-    base: usize,
+    part: Part,
     limit: Limits,
     records: &mut [u32],
     handlers: &mut [u32],
     pool: &mut [u32],
     symbols: &mut [u32],
-) -> Section
-    requires { base + length f.now ≤ 65536 }
-    ensures { section_run result (lent records.new handlers.new pool.new symbols.new)
-        ≡ irep_of f.now base limit (lent records.old handlers.old pool.old symbols.old) }
+) -> Result<Section, Refusal>
+    ensures { run (answer_of result) (lent records.new handlers.new pool.new symbols.new)
+        ≡ irep_of part.entry.bytes.now part.entry.base limit (lent records.old handlers.old pool.old symbols.old) }
 {
-    let read = SectionIrepHeader::from_bytes(f);
-    let refusal = read.refusal;
-    if refusal != 0 {
-        return Section::Refused(refusal);
+    let header = SectionIrepHeader::from_bytes(part.bytes)?;
+    let size = be32_to_u32(header.size);
+    if part.bytes.len() < (size as usize) {
+        return Err(Refusal::PastEnd);
     }
-    let header = read.header;
-    let stated = header.size;
-    let size = be32_to_u32(stated);
-    let irep_size = size as usize;
-    if f.len() < irep_size {
-        return Section::Refused(7);
+    let reached = read_records(part, size as usize, limit, records, handlers, pool, symbols)?;
+    if size == 0 {
+        return Err(Refusal::SizeZero);
     }
-    let none = Used {
-        records: 0,
-        handlers: 0,
-        pool: 0,
-        symbols: 0,
-    };
-    match read_records(
-        f, base, irep_size, limit, 12, records, handlers, pool, symbols, none,
-    ) {
-        Reached::Next { at: _, used } => {
-            if irep_size == 0 {
-                return Section::Refused(8);
-            }
-            Section::Next { size, used }
-        }
-        Reached::Refused(k) => Section::Refused(k),
-    }
+    Ok(Section {
+        size,
+        used: reached.used,
+    })
 }

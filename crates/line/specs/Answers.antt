@@ -1,18 +1,9 @@
--- What each case of this crate's answers stands for.
+-- A line, if there is one, as the definitions have it.
 -- Assumes nothing.
-use Rattle.std.specs.Prelude.{ℕ}
-use Rattle.std.proofs.Math.Option.{Option, none, some}
-use Rattle.line.specs.declared.LastLine.{LastLine}
-use Rattle.line.specs.declared.LastLine.TheVariants as last
-use Rattle.line.specs.declared.LineAt.{LineAt}
-use Rattle.line.specs.declared.LineAt.TheVariants as found
+use Rattle.std.specs.Prelude.{ℕ, Option, Some, None}
+use Rattle.std.proofs.Math.Option as math
+use Rattle.line.specs.declared.Line.{Line}
 
--- the line of a file's previous entry; its first entry has none before it
-abbrev pub last_of : LastLine → Option ℕ
-last_of last.Nothing = none
-last_of (last.Line line) = some line.0
-
--- the line of a position, or none
-abbrev pub line_of : LineAt → Option ℕ
-line_of (found.At line) = some line.0
-line_of found.Nothing = none
+abbrev pub line_of : Option Line → math.Option ℕ
+line_of (Some line) = math.some line.0
+line_of None = math.none

@@ -1,7 +1,7 @@
 -- What a packed number is at its first byte.
 -- Assumes nothing.
 use Rattle.std.proofs.Common.{◌≡◌, ℕ, suc, ◌+◌, ◌-◌, ◌*◌, ◌%◌, ◌<◌, ◌≤◌, List, length, arith, le-ltb, lt-ltb}
-use Rattle.format.specs.Bytes.{Answer, ok, refused, bind, Step, step, byte}
+use Rattle.format.specs.Bytes.{ok, refused, bind, step, byte}
 use Rattle.format.specs.Packed.{wrap, packed_from}
 
 module _ (s : List ℕ) (left at : ℕ) where
@@ -17,11 +17,10 @@ module _ (s : List ℕ) (left at : ℕ) where
   unfolding packed_from
   packed_last ne h b = let e : left ≡ suc (left - 1) = omega arith in rw (e, lt-ltb at (length s) h, lt-ltb (byte s at) 128 b)
 
-  -- o is what the bytes after the first answer
-  pub packed_more : (o : Answer (Step ℕ)) → ¬ (left ≡ 0) → at < length s → 128 ≤ byte s at → o ≡ packed_from s (left - 1) (at + 1)
-      → packed_from s left at ≡ bind o (λ r. ok (step (wrap (byte s at % 128 + 128 * r.it)) r.next))
+  pub packed_more : ¬ (left ≡ 0) → at < length s → 128 ≤ byte s at
+      → packed_from s left at ≡ bind (packed_from s (left - 1) (at + 1)) (λ r. ok (step (wrap (byte s at % 128 + 128 * r.it)) r.next))
   unfolding packed_from
-  packed_more o ne h b e = rw e (more (left - 1) (omega arith))
+  packed_more ne h b = more (left - 1) (omega arith)
     where
       more : (l : ℕ) → left ≡ suc l → packed_from s left at ≡ bind (packed_from s l (at + 1)) (λ r. ok (step (wrap (byte s at % 128 + 128 * r.it)) r.next))
       more l z = rw (z, lt-ltb at (length s) h, le-ltb (byte s at) 128 b)

@@ -1,2 +1,1 @@
 pub mod FirstByte
-pub mod Sums

@@ -1,238 +1,205 @@
 // The line map of one debug file, put into a lent table of words.
 #![tactic(auto)]
 
-ghost use Rattle.std.specs.Prelude.{◌≡◌, ◌+◌, ◌-◌, ◌<◌};
+ghost use Rattle.std.specs.Prelude.{◌≡◌, ◌+◌, ◌<◌};
 ghost use Rattle.std.proofs.Math.Option.{none};
 ghost use Rattle.format.specs.Rows.{line_row};
 ghost use Rattle.format.specs.Debug.{map_entry, after, goes_on};
-ghost use Rattle.line.specs.Answers.{last_of};
+ghost use Rattle.line.specs.Answers.{line_of};
 ghost use Rattle.line_packed.specs.Answers.{entry_of};
+ghost use Rattle.refusal.specs.Number.{answer_of, answer_as};
 ghost use Rattle.rows.specs.Table.{out};
 ghost use Rattle.linemap.specs.Answers.{before_of};
-ghost use Rattle.linemap.specs.Lines.{line_run, first_before, push_of, line_of, lines_of};
+ghost use Rattle.linemap.specs.Lines.{line_run, first_before, push_of, entry_put, lines_of};
 
 use binfmt::{rest, u16_in, u32_in};
-use line::{LastLine, Line, Pos, keeps_line};
+use line::{Line, Pos, keeps_line};
 use line_packed::{Entry, packed_entry};
+use refusal::Refusal;
 use rows::{Rows, put_row};
+
+// A map's kinds. They stay numbers: `LineMap::read_lines` promises what every number answers, those above 2 too.
+const LINE_ARY: u32 = 0;
+
+const FLAT_MAP: u32 = 1;
+
+const PACKED_MAP: u32 = 2;
 
 // The position that the next entry of a map goes by: that of the entry before it; of kind 0 the one that comes next, which may be one above the
 // highest.
-#[derive(Drop)]
+#[derive(Clone, Copy)]
 struct NextPos(u64);
 
 // What the next entry of a map goes by: a position, and the line of the entry before it.
-#[derive(Drop)]
+#[derive(Clone, Copy)]
 struct Before {
     pos: NextPos,
     line: Line,
 }
 
-// What the next entry goes by, this entry's line, the next place and the rows used, or a refusal's number.
-#[derive(Drop)]
-enum OneLine {
-    Next {
-        before: Before,
-        line: Line,
-        at: usize,
-        used: u32,
-    },
-    Refused(u8),
+// What the next entry goes by, the line of the entry before it, the next place and the rows used.
+#[derive(Clone, Copy)]
+struct OneLine {
+    before: Before,
+    last: Option<Line>,
+    rows: Rows,
 }
 
-// A number of 32 bits as one of 64.
-fn wide(x: u32) -> u64
-    ensures { (result ≡ x) × (result < 4294967296) }
-{
-    x as u64
-}
-
-// The bytes from one place to another, 0 where the second is before the first.
-pub fn between(from: usize, to: usize) -> usize
-    ensures { result ≡ to - from }
-{
-    if from < to { to - from } else { 0 }
+// A file's line map: the bytes that it is read from, its kind, the file's start, the place where the map starts, and how many entries it has, or bytes
+// of kind 2.
+#[derive(Clone, Copy)]
+pub struct LineMap<'a> {
+    pub bytes: &'a [u8],
+    pub kind: u32,
+    pub start: Pos,
+    pub from: usize,
+    pub count: u32,
 }
 
 // An entry of kind 0: a line, at the position that comes next.
-fn line_ary_entry(s: &[u8], before: Before, at: usize) -> Entry
-    ensures { entry_of result ≡ map_entry s.now 0 (before_of before) at }
+#[tactic(auto, unfolding(format::specs::Debug::map_entry))]
+fn line_ary_entry(s: &[u8], before: Before, at: usize) -> Result<Entry, Refusal>
+    ensures { answer_as entry_of result ≡ map_entry s.now 0 (before_of before) at }
 {
     if rest(s, at) < 2 {
-        return Entry::Refused(7);
+        return Err(Refusal::PastEnd);
     }
-    if 4294967295 < before.pos.0 {
-        return Entry::Refused(13);
-    }
-    Entry::At {
-        pos: Pos(before.pos.0 as u32),
+    let Ok(pos) = u32::try_from(before.pos.0) else {
+        return Err(Refusal::LinePosition);
+    };
+    Ok(Entry {
+        pos: Pos(pos),
         line: Line(u16_in(s, at) as u32),
         next: at + 2,
-    }
+    })
 }
 
 // An entry of kind 1: a position, then a line.
-fn flat_map_entry(s: &[u8], before: Before, at: usize) -> Entry
-    ensures { entry_of result ≡ map_entry s.now 1 (before_of before) at }
+#[tactic(auto, unfolding(format::specs::Debug::map_entry))]
+fn flat_map_entry(s: &[u8], before: Before, at: usize) -> Result<Entry, Refusal>
+    ensures { answer_as entry_of result ≡ map_entry s.now 1 (before_of before) at }
 {
     if rest(s, at) < 6 {
-        return Entry::Refused(7);
+        return Err(Refusal::PastEnd);
     }
-    Entry::At {
+    Ok(Entry {
         pos: Pos(u32_in(s, at)),
         line: Line(u16_in(s, at + 4) as u32),
         next: at + 6,
-    }
+    })
 }
 
 // An entry of kind 2: packed deltas of position and line. A position past the highest stands for 0, as the sums wrap.
-fn packed_map_entry(s: &[u8], before: Before, at: usize) -> Entry
-    ensures { entry_of result ≡ map_entry s.now 2 (before_of before) at }
+#[tactic(auto, using(crate::proofs::Laws::packed_wrap), unfolding(format::specs::Debug::map_entry))]
+fn packed_map_entry(s: &[u8], before: Before, at: usize) -> Result<Entry, Refusal>
+    ensures { answer_as entry_of result ≡ map_entry s.now 2 (before_of before) at }
 {
-    let pos = Pos((before.pos.0 % 4294967296) as u32);
-    let line = before.line;
-    packed_entry(s, at, pos, line)
-}
-
-// An entry of a map of a kind.
-fn read_entry(s: &[u8], kind: u32, before: Before, at: usize) -> Entry
-    ensures { entry_of result ≡ map_entry s.now kind (before_of before) at }
-{
-    match kind {
-        0 => line_ary_entry(s, before, at),
-        1 => flat_map_entry(s, before, at),
-        _ => packed_map_entry(s, before, at),
-    }
+    packed_entry(s, at, Pos((before.pos.0 % 4294967296) as u32), before.line)
 }
 
 // What the entry after this one goes by.
 fn after_entry(kind: u32, pos: Pos, line: Line) -> Before
     ensures { before_of result ≡ after kind (line_row pos.0 line.0) }
 {
-    let p = wide(pos.0);
-    if kind == 0 {
-        return Before {
-            pos: NextPos(p + 1),
-            line,
-        };
-    }
+    let p = u64::from(pos.0);
+    let next = if kind == LINE_ARY { p + 1 } else { p };
     Before {
-        pos: NextPos(p),
+        pos: NextPos(next),
         line,
     }
 }
 
-// What a file's first entry goes by: of kind 0 the file's start, else 0.
-fn first_before(kind: u32, start: Pos) -> Before
-    ensures { before_of result ≡ first_before kind start.0 }
-{
-    let line = Line(0);
-    if kind == 0 {
-        return Before {
-            pos: NextPos(wide(start.0)),
-            line,
-        };
-    }
-    Before {
-        pos: NextPos(0),
-        line,
-    }
-}
-
-// Whether a map of so many bytes or entries goes on at a place: kind 2 goes by the bytes.
-fn goes_on(kind: u32, from: usize, count: u32, at: usize) -> bool
-    requires { 0 < count }
-    ensures { result ≡ goes_on kind (from + count) at }
-{
-    if kind == 2 {
-        return between(from, at) < (count as usize);
-    }
-    true
-}
-
-// Puts an entry's row, unless its line is that of the file's entry before.
-fn push_line(lines: &mut [u32], used: u32, last: LastLine, pos: Pos, line: Line, at: usize) -> Rows
-    ensures { out result lines.new ≡ push_of (last_of last) (line_row pos.0 line.0) at used lines.old }
-{
-    if keeps_line(last, line) {
-        return put_row(lines, used, &[pos.0, line.0], at);
-    }
-    Rows::Next { at, used }
-}
-
-// One entry of a map, put.
-fn read_line(
-    s: &[u8],
-    kind: u32,
-    before: Before,
-    last: LastLine,
-    at: usize,
+// Puts an entry's row, unless its line is that of the file's entry before, and goes on behind the entry.
+#[tactic(auto, unfolding(crate::specs::Lines::push_of))]
+fn push_line(
     lines: &mut [u32],
     used: u32,
-) -> OneLine
-    ensures { line_run result lines.new ≡ line_of s.now kind (before_of before) (last_of last) at used lines.old }
+    last: Option<Line>,
+    entry: &Entry,
+) -> Result<Rows, Refusal>
+    ensures { out (answer_of result) lines.new ≡ push_of (line_of last) (entry_of entry.now) used lines.old }
 {
-    match read_entry(s, kind, before, at) {
-        Entry::Refused(k) => OneLine::Refused(k),
-        Entry::At { pos, line, next } => match push_line(lines, used, last, pos, line, next) {
-            Rows::Refused(k) => OneLine::Refused(k),
-            Rows::Next {
-                at: end,
-                used: more,
-            } => OneLine::Next {
-                before: after_entry(kind, pos, line),
-                line,
-                at: end,
-                used: more,
+    if keeps_line(last, entry.line) {
+        put_row(lines, used, &[entry.pos.0, entry.line.0], entry.next)
+    } else {
+        Ok(Rows {
+            at: entry.next,
+            used,
+        })
+    }
+}
+
+impl<'a> LineMap<'a> {
+    // What the first entry goes by: of kind 0 the file's start, else 0.
+    fn first_before(self) -> Before
+        ensures { before_of result ≡ first_before self.entry.kind self.entry.start.0 }
+    {
+        let first = if self.kind == LINE_ARY {
+            u64::from(self.start.0)
+        } else {
+            0
+        };
+        Before {
+            pos: NextPos(first),
+            line: Line(0),
+        }
+    }
+
+    // Whether the map goes on at a place: kind 2 goes by the bytes.
+    fn goes_on(self, at: usize) -> bool
+        requires { 0 < self.count }
+        ensures { result ≡ goes_on self.entry.kind (self.entry.from + self.entry.count) at }
+    {
+        self.kind != PACKED_MAP || at.saturating_sub(self.from) < (self.count as usize)
+    }
+
+    // The entry at a place.
+    #[tactic(auto, unfolding(format::specs::Debug::map_entry))]
+    fn read_entry(self, before: Before, at: usize) -> Result<Entry, Refusal>
+        ensures { answer_as entry_of result ≡ map_entry self.entry.bytes.now self.entry.kind (before_of before) at }
+    {
+        match self.kind {
+            LINE_ARY => line_ary_entry(self.bytes, before, at),
+            FLAT_MAP => flat_map_entry(self.bytes, before, at),
+            _ => packed_map_entry(self.bytes, before, at),
+        }
+    }
+
+    // One entry, put.
+    #[tactic(auto, unfolding(crate::specs::Lines::entry_put))]
+    fn read_line(self, one: OneLine, lines: &mut [u32]) -> Result<OneLine, Refusal>
+        ensures { line_run (answer_of result) lines.new
+            ≡ entry_put self.entry.bytes.now self.entry.kind (before_of one.before) (line_of one.last) one.rows.at one.rows.used lines.old }
+    {
+        let entry = self.read_entry(one.before, one.rows.at)?;
+        let rows = push_line(lines, one.rows.used, one.last, &entry)?;
+        Ok(OneLine {
+            before: after_entry(self.kind, entry.pos, entry.line),
+            last: Some(entry.line),
+            rows,
+        })
+    }
+
+    // The map's entries, put behind the rows used.
+    pub fn read_lines(self, lines: &mut [u32], used: u32) -> Result<Rows, Refusal>
+        ensures { out (answer_of result) lines.new
+            ≡ lines_of self.entry.bytes.now self.entry.kind (self.entry.from + self.entry.count) self.entry.count
+            (first_before self.entry.kind self.entry.start.0) none self.entry.from used lines.old }
+    {
+        let mut one = OneLine {
+            before: self.first_before(),
+            last: None,
+            rows: Rows {
+                at: self.from,
+                used,
             },
-        },
-    }
-}
-
-// At most so many entries of a map.
-pub fn read_lines(
-    s: &[u8],
-    kind: u32,
-    start: Pos,
-    count: u32,
-    at: usize,
-    lines: &mut [u32],
-    used: u32,
-) -> Rows
-    ensures { out result lines.new ≡ lines_of s.now kind (at + count) count (first_before kind start.0) none at used lines.old }
-{
-    let mut left = count;
-    let mut before = first_before(kind, start);
-    let mut last = LastLine::Nothing;
-    let mut place = at;
-    let mut rows = used;
-    while 0 < left {
-        if !goes_on(kind, at, count, place) {
-            return Rows::Next {
-                at: place,
-                used: rows,
-            };
-        }
-        match read_line(s, kind, before, last, place, lines, rows) {
-            OneLine::Refused(k) => {
-                return Rows::Refused(k);
+        };
+        for _i in 0..self.count {
+            if !self.goes_on(one.rows.at) {
+                return Ok(one.rows);
             }
-            OneLine::Next {
-                before: then,
-                line,
-                at: next,
-                used: more,
-            } => {
-                before = then;
-                last = LastLine::Line(line);
-                place = next;
-                rows = more;
-            }
+            one = self.read_line(one, lines)?;
         }
-        left -= 1;
-    }
-    Rows::Next {
-        at: place,
-        used: rows,
+        Ok(one.rows)
     }
 }

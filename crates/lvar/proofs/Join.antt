@@ -15,17 +15,16 @@ use Rattle.format.specs.Load.{joined, start, record_rows, Nine}
 use Rattle.format.proofs.Answers.{in_turn_all}
 use Rattle.format.proofs.Places.{joined_append, joined_snoc, record_word_lem, names_put}
 use Rattle.format.proofs.Walk.{span_most, walk_span, walk_visits}
-use Rattle.rows.specs.declared.Rows.TheVariants as rows
-use Rattle.rows.specs.Table.{out, row_count, first_of, times}
-use Rattle.rows.specs.Rows.{string_of, name_of}
+use Rattle.rows.specs.declared.Row.TheVariants.{Text, Name}
+use Rattle.rows.specs.Table.{out, next, row_count, first_of, times}
+use Rattle.rows.specs.Rows.{row_of}
 use Rattle.rows.specs.Walk.{Run, go, stop, bind, walk}
-use Rattle.rows.proofs.Join.{Ran, RowsRan, times_ran, string_agrees, name_agrees}
-use Rattle.lvar.specs.declared.Lvar.TheVariants as lvar
+use Rattle.rows.proofs.Join.{Ran, RowsRan, times_ran}
 use Rattle.lvar.specs.Names.{Tables, State, state, nlocals_of, rlen_of, put_names, with_names, lv_step, lv_kids, never, visits_over, in_word}
-use Rattle.lvar.specs.Section.{Filled, filled, end_of, walked, lvar_of}
+use Rattle.lvar.specs.Section.{Filled, filled, counts, end_of, walked, lvar_of}
 
 -- the walk, with so many words for the records and for the names
-module _ (f : List ℕ) (strings m k : ℕ) (fss : List (List File)) where
+module _ (f : List ℕ) (base strings m k : ℕ) (fss : List (List File)) where
   abbrev R : List Rec → List (List NameRow) → List ℕ
   R rs nss = table_of record_words m (record_rows start rs nss fss [])
 
@@ -49,7 +48,7 @@ module _ (f : List ℕ) (strings m k : ℕ) (fss : List (List File)) where
   reading_of rs pending at = format.walk (record_names f strings) (λ _. false) rs pending at
 
   abbrev run_of : ℕ → ℕ → State → Run State Tables
-  run_of left pending st = walk (lv_step f strings) lv_kids never left pending st
+  run_of left pending st = walk (lv_step f base strings) lv_kids never left pending st
 
   -- one visit: r is the record, behind qs
   module _ (qs : List Rec) (r : Rec) (rs : List Rec) (nss : List (List NameRow)) (e : length nss ≡ length qs) (fit : Fits nss) (pending at : ℕ) where
@@ -86,12 +85,12 @@ module _ (f : List ℕ) (strings m k : ℕ) (fss : List (List File)) where
         rw (← l, e) (rw z at (names_put m start qs r rs nss ns fss e))
 
     -- both sides, by the record's own names
-    run_is : run_of (suc (length rs)) (suc pending) st ≡ bind (lv_step f strings st) (run_of (length rs) (r.head.rlen + pending))
+    run_is : run_of (suc (length rs)) (suc pending) st ≡ bind (lv_step f base strings st) (run_of (length rs) (r.head.rlen + pending))
     unfolding walk
     run_is = rw rlen_is
 
     module _ (some : eqb r.head.nlocals 0 ≡ false) where
-      step_is : lv_step f strings st ≡ with_names st n (times (name_of f strings) n at (length (joined nss)) (N nss))
+      step_is : lv_step f base strings st ≡ with_names st n (times (row_of f base (Name strings)) n at (length (joined nss)) (N nss))
       unfolding lv_step
       step_is = rw (nlocals_is, some)
 
@@ -99,11 +98,11 @@ module _ (f : List ℕ) (strings m k : ℕ) (fss : List (List File)) where
       unfolding format.walk record_names
       read_is = rw some
 
-      by_names : Later → RowsRan name_words 1 (λ _. refl) (omega arith) k (joined nss) names (times (name_of f strings) n at (length (joined nss)) (N nss)) → Goal
+      by_names : Later → RowsRan name_words 1 (λ _. refl) (omega arith) k (joined nss) names (times (row_of f base (Name strings)) n at (length (joined nss)) (N nss)) → Goal
       by_names ih (Ran.went a p x d) =
           let ns = names.rows in
           let l : length nss + 1 ≡ length (nss ++ ns ∷ []) = sym (length-append nss (ns ∷ [])) in
-          let stepped : lv_step f strings st ≡ go (here all (nss ++ ns ∷ []) a) = rw (step_is, d, put_is ns n (in_turn_all (name_entry f strings) n at a p), l, joined_snoc nss ns) in
+          let stepped : lv_step f base strings st ≡ go (here all (nss ++ ns ∷ []) a) = rw (step_is, d, put_is ns n (in_turn_all (name_entry f strings) n at a p), l, joined_snoc nss ns) in
           rw (run_is, read_is, stepped, p) (rw append_assoc at (ih a (rw (joined_snoc nss ns) x)))
       by_names ih (Ran.stop c p x d) = rw (run_is, read_is, step_is, d, p) (Ran.stop c refl (rw (joined_snoc nss names.rows) x) (_, refl))
       by_names ih (Ran.full x d) =
@@ -120,7 +119,7 @@ module _ (f : List ℕ) (strings m k : ℕ) (fss : List (List File)) where
     visit_ran : Later → (c : Bool) → eqb r.head.nlocals 0 ≡ c → Goal
     visit_ran ih true z = none_left z
     visit_ran ih false z =
-        by_names z ih (times_ran name_words 1 (λ _. refl) (omega arith) k (name_of f strings) (name_entry f strings) (name_agrees f strings) n at (joined nss) fit)
+        by_names z ih (times_ran name_words 1 (λ _. refl) (omega arith) k (row_of f base (Name strings)) (name_entry f strings) (λ _ _ _. refl) n at (joined nss) fit)
 
   pub walk_ran : (rs qs : List Rec) (nss : List (List NameRow)) (pending at : ℕ) → length nss ≡ length qs → Fits nss
       → WalkRan (qs ++ rs) nss (reading_of rs pending at) (run_of (length rs) pending (here (qs ++ rs) nss at))
@@ -171,11 +170,11 @@ module _ (m : Nine) (f : List ℕ) (base : ℕ) (rs : List Rec) (fss : List (Lis
       Ran P.end (Room P.it)
       (λ size.
       O
-      ≡ filled (lvar.Next size (length P.it.strings) (length (joined P.it.names)) (in_word (visits rs 1)))
+      ≡ filled (counts size (length P.it.strings) (length (joined P.it.names)) (in_word (visits rs 1)))
       (table_of record_words m.records (record_rows start rs P.it.names fss []))
       (table_of text_words m.strings P.it.strings)
       (table_of name_words m.names (joined P.it.names)))
-      (λ k. O.ans ≡ lvar.Refused k)
+      (λ k. O.ans ≡ refused k)
 
   section_short : has f 0 12 ≡ false → SectionRan
   unfolding lvar_of lvar_section
@@ -192,11 +191,11 @@ module _ (m : Nine) (f : List ℕ) (base : ℕ) (rs : List Rec) (fss : List (Lis
     tested size = cond (eqb size 0) (refused 8) (cond (leb size (length f)) (ok size) (refused 7))
 
     abbrev run : ℕ → Run State Tables
-    run a = walk (lv_step f (u32_at f 8)) lv_kids never (length rs) 1 (here f (u32_at f 8) m.records m.names fss rs [] a)
+    run a = walk (lv_step f base (u32_at f 8)) lv_kids never (length rs) 1 (here f base (u32_at f 8) m.records m.names fss rs [] a)
 
     -- both sides, once the strings are read and their rows are there
     module _ (a : ℕ) (p : S.end ≡ ok a) (x : length S.rows ≤ row_count m.strings 2)
-        (d : times (string_of f base) (u32_at f 8) 12 0 (table_of text_words m.strings []) ≡ out (rows.Next a (length S.rows)) (table_of text_words m.strings S.rows)) where
+        (d : times (row_of f base Text) (u32_at f 8) 12 0 (table_of text_words m.strings []) ≡ out (next a (length S.rows)) (table_of text_words m.strings S.rows)) where
       part_is : P ≡ part (record { strings = S.rows; names = (W a).rows }) (bytes.bind (W a).end (λ _. tested (u32_at f 4)))
       unfolding lvar_section
       part_is = rw (there, p)
@@ -205,27 +204,27 @@ module _ (m : Nine) (f : List ℕ) (base : ℕ) (rs : List Rec) (fss : List (Lis
       unfolding lvar_of
       section_is = let z : length rs - 0 ≡ length rs = omega arith in rw (there, d, z)
 
-      by_end : (b : ℕ) → (W a).end ≡ ok b → length (joined (W a).rows) ≤ row_count m.names 1 → run a ≡ go (here f (u32_at f 8) m.records m.names fss rs (W a).rows b)
+      by_end : (b : ℕ) → (W a).end ≡ ok b → length (joined (W a).rows) ≤ row_count m.names 1 → run a ≡ go (here f base (u32_at f 8) m.records m.names fss rs (W a).rows b)
           → (c e : Bool) → eqb (u32_at f 4) 0 ≡ c → leb (u32_at f 4) (length f) ≡ e → SectionRan
       unfolding end_of
       by_end b q y g true e z l = rw (section_is, part_is, q, g, z) (Ran.stop 8 refl (x, y) refl)
       by_end b q y g false true z l =
-          rw (section_is, part_is, q, g, z, l) (Ran.went (u32_at f 4) refl (x, y) (rw (table_visits f (u32_at f 8) m.records m.names fss rs a b q)))
+          rw (section_is, part_is, q, g, z, l) (Ran.went (u32_at f 4) refl (x, y) (rw (table_visits f base (u32_at f 8) m.records m.names fss rs a b q)))
       by_end b q y g false false z l = rw (section_is, part_is, q, g, z, l) (Ran.stop 7 refl (x, y) refl)
 
-      by_walk : WalkRan f (u32_at f 8) m.records m.names fss rs [] (W a) (run a) → SectionRan
+      by_walk : WalkRan f base (u32_at f 8) m.records m.names fss rs [] (W a) (run a) → SectionRan
       by_walk (Ran.went b q y g) = by_end b q y g (eqb (u32_at f 4) 0) (leb (u32_at f 4) (length f)) refl refl
       by_walk (Ran.stop k q y (t, g)) = rw (section_is, part_is, q, g) (Ran.stop k refl (x, y) refl)
       by_walk (Ran.full y (t, g)) = rw (section_is, part_is, g) (Ran.full (λ r. y r.1) refl)
 
-    by_strings : RowsRan text_words 2 (λ _. refl) (omega arith) m.strings [] S (times (string_of f base) (u32_at f 8) 12 0 (table_of text_words m.strings [])) → SectionRan
+    by_strings : RowsRan text_words 2 (λ _. refl) (omega arith) m.strings [] S (times (row_of f base Text) (u32_at f 8) 12 0 (table_of text_words m.strings [])) → SectionRan
     unfolding lvar_of lvar_section
-    by_strings (Ran.went a p x d) = by_walk a p x d (walk_ran f (u32_at f 8) m.records m.names fss rs [] [] 1 a refl (omega arith))
+    by_strings (Ran.went a p x d) = by_walk a p x d (walk_ran f base (u32_at f 8) m.records m.names fss rs [] [] 1 a refl (omega arith))
     by_strings (Ran.stop k p x d) = rw (there, p, d) (Ran.stop k refl (x, omega arith) refl)
     by_strings (Ran.full x d) = rw (there, d) (Ran.full (λ r. x r.0) refl)
 
     strings_ran : SectionRan
-    strings_ran = by_strings (times_ran text_words 2 (λ _. refl) (omega arith) m.strings (string_of f base) (plain_text f base) (string_agrees f base) (u32_at f 8) 12 [] (omega arith))
+    strings_ran = by_strings (times_ran text_words 2 (λ _. refl) (omega arith) m.strings (row_of f base Text) (plain_text f base) (λ _ _ _. refl) (u32_at f 8) 12 [] (omega arith))
 
   by_bytes : (c : Bool) → has f 0 12 ≡ c → SectionRan
   by_bytes true h = strings_ran h

@@ -1,14 +1,15 @@
 -- The LVAR walk over a table of records and a table of names: each visited record takes nlocals - 1 entries; and how many visits it makes.
 -- Assumes nothing.
 use Rattle.std.specs.Prelude.{ℕ, suc, ◌+◌, ◌-◌, ◌*◌, ◌%◌, Bool, false, cond, List, ◌==◌, slice_index, slice_set}
+use Rattle.format.specs.Bytes.{Answer, ok, refused, on_answer}
 use Rattle.format.specs.Line.{rows_from}
 use Rattle.format.specs.Tree.{total}
 use Rattle.format.specs.Rows.{record_width}
-use Rattle.rows.specs.Table.{Out, on_rows, first_of, times}
-use Rattle.rows.specs.Rows.{name_of}
+use Rattle.rows.specs.declared.Row.TheVariants.{Name}
+use Rattle.rows.specs.Table.{Out, first_of, times}
+use Rattle.rows.specs.Rows.{row_of}
 use Rattle.rows.specs.Walk.{Run, go, stop, walk}
 use Rattle.lvar.specs.declared.Walk.{Walk}
-use Rattle.lvar.specs.declared.Walk.TheVariants.{Next, Refused}
 
 -- what both tables hold
 pub record Tables : Type 0 where
@@ -29,10 +30,14 @@ pub record State : Type 0 where
 abbrev pub state : ℕ → ℕ → ℕ → List ℕ → List ℕ → State
 state at rec used rs ns = record { at = at; rec = rec; used = used; records = rs; names = ns }
 
+-- how far a walk has come, with both tables
+abbrev pub state_of : Walk → List ℕ → List ℕ → State
+state_of w rs ns = state w.rows.at w.rec w.rows.used rs ns
+
 -- what a walk answers, with both tables as they are then
-abbrev pub out_of : Walk → List ℕ → List ℕ → Run State Tables
-out_of (Next at rec used) rs ns = go (state at rec used rs ns)
-out_of (Refused e) rs ns = stop e (tables rs ns)
+abbrev pub out_of : Answer Walk → List ℕ → List ℕ → Run State Tables
+out_of (ok w) rs ns = go (state_of w rs ns)
+out_of (refused e) rs ns = stop e (tables rs ns)
 
 -- words of a record's row: nlocals and rlen
 abbrev pub nlocals_of : List ℕ → ℕ → ℕ
@@ -48,16 +53,16 @@ put_names rs row first n = slice_set (slice_set rs (row + 13) first) (row + 14) 
 -- what reading n entries for a record makes of the state
 abbrev pub with_names : State → ℕ → Out → Run State Tables
 with_names st n o =
-    on_rows o.ans
-    (λ at u. go (state at (st.rec + 1) u (put_names st.records (st.rec * record_width) (first_of st.used n) n) o.tab))
+    on_answer o.ans
+    (λ r. go (state r.at (st.rec + 1) r.used (put_names st.records (st.rec * record_width) (first_of st.used n) n) o.tab))
     (λ e. stop e (tables st.records o.tab))
 
 -- the entries of the record that the state is at: "A visited record takes nlocals - 1 entries"; "11: a visited record has nlocals 0"
-unfoldable pub lv_step : List ℕ → ℕ → State → Run State Tables
-lv_step f strings st =
+unfoldable pub lv_step : List ℕ → ℕ → ℕ → State → Run State Tables
+lv_step f base strings st =
     cond (nlocals_of st.records st.rec == 0) (stop 11 (tables st.records st.names))
     (with_names st (nlocals_of st.records st.rec - 1)
-    (times (name_of f strings) (nlocals_of st.records st.rec - 1) st.at st.used st.names))
+    (times (row_of f base (Name strings)) (nlocals_of st.records st.rec - 1) st.at st.used st.names))
 
 abbrev pub lv_kids : State → ℕ
 lv_kids st = rlen_of st.records st.rec
@@ -66,8 +71,8 @@ abbrev pub never : State → Bool
 never st = false
 
 -- the walk over `count` records with so many visits to make
-abbrev pub lv_walk : List ℕ → ℕ → ℕ → ℕ → State → Run State Tables
-lv_walk f strings count pending st = walk (lv_step f strings) lv_kids never (count - st.rec) pending st
+abbrev pub lv_walk : List ℕ → ℕ → ℕ → ℕ → ℕ → State → Run State Tables
+lv_walk f base strings count pending st = walk (lv_step f base strings) lv_kids never (count - st.rec) pending st
 
 -- "1 plus the rlens of the records visited", which are the first n
 abbrev pub visits_over : List ℕ → ℕ → ℕ

@@ -4,14 +4,14 @@ use Prim.Native.Nat.{ℕ, ◌+◌, ◌-◌, ◌*◌, ◌≤◌, ◌<◌}
 use native.Mathlib.Omega.{arith}
 use mathlib.Core.Path.{◌≡◌, refl, sym, ap, ◌∙◌, subst}
 use mathlib.Core.Bool.{Bool, true, false, not, cond}
-use mathlib.Core.Option.{Option, none, some}
+use mathlib.Core.Option as math
+use Rattle.std.specs.Prelude.{Option, Some, None}
 use mathlib.Core.List.{List, []}
-use lib.Dec.{T, eqb}
-use lib.ListN.{length, take, drop}
-use borrow.Author.Tests.{lt-ltb, le-ltb, ne_eqb}
+use lib.Dec.{T}
+use lib.ListN.{length}
+use borrow.Author.Tests.{lt-ltb, le-ltb}
 use Rattle.format.specs.Bytes.{byte, u16_at}
 use Rattle.format.specs.Insn.{Flow, on, ends, jumps, may, roles, flow, second_width, operand, opcode, row_at, operands_at, next, target}
-use Rattle.format.specs.Lookup.{record_word}
 use Rattle.format.specs.Pattern.{Record, begins, lands}
 use Rattle.format.specs.Exam.{stray, readable, leads, has_target, follows}
 use Rattle.format.specs.Run.{Choice, go_on, jump, enter, leave, caught, is_child, child_operand, Move, gone, to, into, goes, jumped, move}
@@ -27,11 +27,13 @@ use Rattle.runs.proofs.Exact.{met_none}
 use Rattle.opcode.specs.declared.OpRow.{OpRow}
 use Rattle.opcode.specs.declared.Flow as insn_flow
 use Rattle.opcode.specs.Rows.{RowView, row_of, op_row, flow_of}
-use Rattle.exam.specs.View.{code_at, target_at, targets}
+use Rattle.exam.specs.View.{target_at, targets}
 use Rattle.moves.specs.declared.Choice as moves
-use Rattle.moves.specs.declared.Choice.TheVariants.{GoOn, Jump, Enter, Caught, Leave}
+use Rattle.moves.specs.declared.Operand.{Operand}
+use Rattle.moves.specs.declared.Operand.TheVariants.{Second, Third}
+use Rattle.moves.specs.declared.Choice.TheVariants.{GoOn, Jump, Enter, Leave}
 use Rattle.moves.specs.Answers.{choice_of, child_among, child_number}
-use Rattle.moves.specs.Part.{part, part_at}
+use Rattle.moves.specs.Part.{part}
 
 -- a move sees a record's instruction bytes and handlers alone
 pub move_part : (r : Record) (o : ℕ) (c : Choice) → move (part r.code r.handlers) o c ≡ move r o c
@@ -99,44 +101,32 @@ module _ (c : List ℕ) (o : ℕ) (r : OpRow) {b : ℕ} (eb : b ≡ opcode c o) 
       → m ≡ move (part c []) o go_on → m ≡ move (part c []) o jump
   jump_on k g = g ∙ sym on_is ∙ k ∙ jump_is
 
--- which operand numbers a child; y, z: whether the second does, whether the third does
-module _ (v : RowView) {y : Bool} (ey : y ≡ is_child v.second) where
-  pub second_child : y ≡ true → 2 ≡ child_among v
-  second_child h = rw (← ey, h)
-
-  module _ (h : y ≡ false) {z : Bool} (ez : z ≡ is_child v.third) where
-    pub third_child : z ≡ true → 3 ≡ child_among v
-    third_child g = rw (← ey, h, ← ez, g)
-
-    pub no_child : z ≡ false → 0 ≡ child_among v
-    no_child g = rw (← ey, h, ← ez, g)
-
--- the child operand by its number, counted from 1
-abbrev child_by : List ℕ → ℕ → ℕ → Option ℕ
-child_by c o n = cond (eqb n 0) none (some (child_number c o n))
+-- the child operand by its place
+abbrev child_by : List ℕ → ℕ → Option Operand → math.Option ℕ
+child_by c o (Some x) = math.some (child_number c o x)
+child_by c o None = math.none
 
 child_is : (c : List ℕ) (o : ℕ) → child_operand (roles (row_at c o)) (operands_at c o) ≡ child_by c o (child_among (op_row (opcode c o)))
 child_is c o = child_places c o ∙ go (is_child (role_in c o 1)) (is_child (role_in c o 2))
   where
     go : (y z : Bool)
-        → cond y (some (operand (second_width (byte c o)) c (second_place c o))) (cond z (some (byte c (third_place c o))) none)
-        ≡ child_by c o (cond y 2 (cond z 3 0))
+        → cond y (math.some (operand (second_width (byte c o)) c (second_place c o))) (cond z (math.some (byte c (third_place c o))) math.none)
+        ≡ child_by c o (cond y (Some Second) (cond z (Some Third) None))
     go true z = refl
     go false true = refl
     go false false = refl
 
--- n: the child operand that the code found
-module _ (c : List ℕ) (o n : ℕ) (e : n ≡ child_among (op_row (opcode c o))) where
+module _ (c : List ℕ) (o : ℕ) where
   -- where there is none
-  pub enter_on : {m : Move} → n ≡ 0 → m ≡ move (part c []) o go_on → m ≡ move (part c []) o enter
+  pub enter_on : {m : Move} → None ≡ child_among (op_row (opcode c o)) → m ≡ move (part c []) o go_on → m ≡ move (part c []) o enter
   unfolding move
-  enter_on z g = g ∙ rw (child_is c o, ← e, z)
+  enter_on e g = g ∙ rw (child_is c o, ← e)
 
-  module _ (z : n ≡ 0 → ⊥) where
-    -- 2
-    pub enter_is : {k m : ℕ} → k ≡ child_number c o n → m ≡ next c o → into k m ≡ move (part c []) o enter
-    unfolding move
-    enter_is ek em = rw (child_is c o, ← e, ne_eqb n 0 z, ek, em)
+  -- 2
+  pub enter_is : {x : Operand} {k m : ℕ} → Some x ≡ child_among (op_row (opcode c o)) → k ≡ child_number c o x → m ≡ next c o
+      → into k m ≡ move (part c []) o enter
+  unfolding move
+  enter_is e ek em = rw (child_is c o, ← e, ek, em)
 
 module _ (c hs : List ℕ) (o first number : ℕ) where
   count : length (targets hs first number) ≡ number
@@ -167,18 +157,6 @@ module _ (c ts : List ℕ) (o : ℕ) {ch : moves.Choice} {m : Move} where
   unfolding move
   by_enter e g = g ∙ ap (λ (k : moves.Choice). move (part c ts) o (choice_of k)) (sym e)
 
-  pub by_caught : {h : ℕ} → ch ≡ Caught h → m ≡ move (part c ts) o (caught h) → m ≡ move (part c ts) o (choice_of ch)
-  by_caught e g = g ∙ ap (λ (k : moves.Choice). move (part c ts) o (choice_of k)) (sym e)
-
 pub by_leave : (c ts : List ℕ) (o : ℕ) {ch : moves.Choice} → ch ≡ Leave → gone ≡ move (part c ts) o (choice_of ch)
 unfolding move
 by_leave c ts o e = ap (λ (k : moves.Choice). move (part c ts) o (choice_of k)) (sym e)
-
--- the part of the file that is a record's instruction bytes
-pub code_is : (f recs : List ℕ) (r a n : ℕ) → a ≡ record_word recs r 6 → n ≡ record_word recs r 5 → take (a + n - a) (drop a f) ≡ code_at f recs r
-code_is f recs r a n p q = let d : a + n - a ≡ n = omega arith in rw (d, p, q)
-
--- the words that the code read of record row r
-pub moved_in : (f recs hs : List ℕ) (r o : ℕ) (ch : Choice) {a n h k : ℕ} {m : Move} → a ≡ record_word recs r 6 → n ≡ record_word recs r 5 → h ≡ record_word recs r 7
-    → k ≡ record_word recs r 8 → m ≡ move (part (take (a + n - a) (drop a f)) (targets hs h k)) o ch → m ≡ move (part_at f recs hs r) o ch
-moved_in f recs hs r o ch {a} {n} ea en eh ek q = q ∙ rw (code_is f recs r a n ea en, eh, ek)

@@ -1,15 +1,18 @@
--- What each case of this crate's enums stands for: the paper's choices and moves, or 21.
+-- What each case of this crate's enums stands for: the paper's choices and moves.
 -- Assumes nothing.
-use Rattle.std.specs.Prelude.{ℕ, ◌≤◌, ◌<◌, ◌≡◌, cond, List, eqb, length, drop}
+use Rattle.std.specs.Prelude.{ℕ, ◌≤◌, ◌<◌, ◌≡◌, cond, List, length, drop, Option, Some, None, Result, Ok, Err}
 use Rattle.format.specs.Bytes.{byte, refused}
 use Rattle.format.specs.Insn.{second_width, operand}
 use Rattle.format.specs.Run as format
 use Rattle.runs.specs.Places.{second_place, third_place}
+use Rattle.refusal.specs.Number.{number}
+use Rattle.refusal.specs.declared.Refusal.{Refusal}
 use Rattle.opcode.specs.Rows.{RowView}
 use Rattle.moves.specs.declared.Choice.{Choice}
 use Rattle.moves.specs.declared.Choice.TheVariants as choice
 use Rattle.moves.specs.declared.Read.{Read}
-use Rattle.moves.specs.declared.Read.TheVariants as read
+use Rattle.moves.specs.declared.Operand.{Operand}
+use Rattle.moves.specs.declared.Operand.TheVariants as operands
 use Rattle.moves.specs.declared.Moved.{Moved}
 use Rattle.moves.specs.declared.Moved.TheVariants as moved
 
@@ -25,13 +28,14 @@ move_of moved.Gone = format.gone
 move_of (moved.To o) = format.to o
 move_of (moved.Into k o) = format.into k o
 
--- which operand of an opcode numbers a child: 2 for the second, 3 for the third, 0 where none does
-abbrev pub child_among : RowView → ℕ
-child_among v = cond (format.is_child v.second) 2 (cond (format.is_child v.third) 3 0)
+-- which operand of an opcode numbers a child
+abbrev pub child_among : RowView → Option Operand
+child_among v = cond (format.is_child v.second) (Some operands.Second) (cond (format.is_child v.third) (Some operands.Third) None)
 
--- the number that the second operand (n is 2) or the third of the instruction at o holds, where it is a child's
-abbrev pub child_number : List ℕ → ℕ → ℕ → ℕ
-child_number c o n = cond (eqb n 2) (operand (second_width (byte c o)) c (second_place c o)) (byte c (third_place c o))
+-- the number that an operand of the instruction at o holds, where it is a child's
+abbrev pub child_number : List ℕ → ℕ → Operand → ℕ
+child_number c o operands.Second = operand (second_width (byte c o)) c (second_place c o)
+child_number c o operands.Third = byte c (third_place c o)
 
 -- the choice c stands at place i of the bytes, and j is the place after it
 pub record NextIs (bs : List ℕ) (i : ℕ) (c : Choice) (j : ℕ) : Type 0 where
@@ -39,7 +43,7 @@ pub record NextIs (bs : List ℕ) (i : ℕ) (c : Choice) (j : ℕ) : Type 0 wher
   pub inside : j ≤ length bs
   pub so : format.choices_from format.kind (drop i bs) ≡ format.put (choice_of c) (format.choices_from format.kind (drop j bs))
 
--- what is read at place i of the bytes: a choice, or 21
-abbrev pub ReadAt : List ℕ → ℕ → Read → Type 0
-ReadAt bs i (read.Next c j) = NextIs bs i c j
-ReadAt bs i read.Bad = format.choices_from format.kind (drop i bs) ≡ refused 21
+-- what is read at place i of the bytes: a choice, or refusal 21
+abbrev pub ReadAt : List ℕ → ℕ → Result Read Refusal → Type 0
+ReadAt bs i (Ok r) = NextIs bs i r.choice r.next
+ReadAt bs i (Err e) = (format.choices_from format.kind (drop i bs) ≡ refused 21) × (number e ≡ 21)

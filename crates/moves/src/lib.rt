@@ -8,7 +8,7 @@ ghost use Rattle.format.specs.Tree.{child_of};
 ghost use Rattle.format.specs.Run as format;
 ghost use Rattle.format.specs.Rows.{record_width};
 ghost use Rattle.runs.specs.Stack.{Stands, Jumps};
-ghost use Rattle.opcode.specs.Rows.{role_of, row_of};
+ghost use Rattle.opcode.specs.Rows.{row_of};
 ghost use Rattle.exam.specs.View.{targets, code_at, rlens_at};
 ghost use Rattle.moves.specs.Answers.{choice_of, move_of, child_among, child_number, ReadAt};
 ghost use Rattle.moves.specs.Part.{part, part_at};
@@ -17,9 +17,10 @@ use exam::word;
 use flags::{next_offset, opcode_at, operand_at};
 use format::RECORD_WIDTH;
 use opcode::{Flow, OpRow, Role, first_width, lead, op_row, second_width};
+use refusal::Refusal;
 
 // A choice. Caught has the handler's number.
-#[derive(Drop)]
+#[derive(Clone, Copy)]
 pub enum Choice {
     GoOn,
     Jump,
@@ -28,81 +29,69 @@ pub enum Choice {
     Leave,
 }
 
-// A choice and the place after it, or that its kind is above 4 or its body cut.
-#[derive(Drop)]
-pub enum Read {
-    Next { choice: Choice, next: usize },
-    Bad,
+// A choice and the place after it.
+#[derive(Clone, Copy)]
+pub struct Read {
+    pub choice: Choice,
+    pub next: usize,
 }
 
 // What a choice does to the top frame: it goes; it passes to an offset; it passes to an offset and a child, by its number, is entered.
-#[derive(Drop)]
+#[derive(Clone, Copy)]
 pub enum Moved {
     Gone,
     To(usize),
     Into { child: usize, offset: usize },
 }
 
-// A byte as a number.
-fn wide(x: u8) -> usize
-    ensures { (result ≡ x) × (result < 256) }
-{
-    x as usize
+// Which operand of an opcode numbers a child.
+#[derive(Clone, Copy)]
+enum Operand {
+    Second,
+    Third,
 }
 
 // The choice of kind 3 at `i`: its body is a handler's number in two bytes, high byte first.
-fn caught_at(choices: &[u8], i: usize) -> Read
+fn caught_at(choices: &[u8], i: usize) -> Result<Read, Refusal>
     requires { (i < length choices.now) × (get_or choices.now i 0 ≡ 3) }
     ensures { ReadAt choices.now i result }
 {
     if choices.len() - i < 3 {
-        return Read::Bad;
+        return Err(Refusal::Choice);
     }
-    let h = wide(choices[i + 1]) * 256 + wide(choices[i + 2]);
-    let next = i + 3;
-    Read::Next {
+    let h = usize::from(choices[i + 1]) * 256 + usize::from(choices[i + 2]);
+    Ok(Read {
         choice: Choice::Caught(h),
-        next,
-    }
+        next: i + 3,
+    })
 }
 
-// The choice at `i`.
-pub fn choice_at(choices: &[u8], i: usize) -> Read
+// The choice at `i`: 21 where its kind is above 4 or its body cut.
+pub fn choice_at(choices: &[u8], i: usize) -> Result<Read, Refusal>
     requires { i < length choices.now }
     ensures { ReadAt choices.now i result }
 {
-    let kind = choices[i];
+    let choice = match choices[i] {
+        0 => Choice::GoOn,
+        1 => Choice::Jump,
+        2 => Choice::Enter,
+        3 => return caught_at(choices, i),
+        4 => Choice::Leave,
+        _ => return Err(Refusal::Choice),
+    };
     let next = i + 1;
-    match kind {
-        0 => Read::Next {
-            choice: Choice::GoOn,
-            next,
-        },
-        1 => Read::Next {
-            choice: Choice::Jump,
-            next,
-        },
-        2 => Read::Next {
-            choice: Choice::Enter,
-            next,
-        },
-        3 => caught_at(choices, i),
-        4 => Read::Next {
-            choice: Choice::Leave,
-            next,
-        },
-        _ => Read::Bad,
-    }
+    Ok(Read { choice, next })
 }
 
 // Where the jump at `o` goes: its last two bytes are added to the next offset, signed.
+#[tactic(auto, using(runs::proofs::Jumps::room))]
 fn jump_target(code: &[u8], o: usize) -> usize
     requires { Jumps code.now o }
     ensures { result ≡ target code.now o }
 {
     let next = next_offset(code, o);
     let at = next - 2;
-    let s = wide(code[at]) * 256 + wide(code[at + 1]);
+    let s = usize::from(code[at]) * 256 + usize::from(code[at + 1]);
     if s < 32768 {
         next + s
     } else {
@@ -115,13 +104,10 @@ fn go_on(code: &[u8], o: usize) -> Moved
     requires { Stands code.now o }
     ensures { move_of result ≡ format.move (part code.now []) o format.go_on }
 {
-    let op = op_row(opcode_at(code, o));
-    let flow = op.flow;
-    match flow {
-        Flow::On => Moved::To(next_offset(code, o)),
+    match op_row(opcode_at(code, o)).flow {
+        Flow::On | Flow::May => Moved::To(next_offset(code, o)),
         Flow::Ends => Moved::Gone,
         Flow::Jumps => Moved::To(jump_target(code, o)),
-        Flow::May => Moved::To(next_offset(code, o)),
     }
 }
 
@@ -130,55 +116,37 @@ fn jump(code: &[u8], o: usize) -> Moved
     requires { Stands code.now o }
     ensures { move_of result ≡ format.move (part code.now []) o format.jump }
 {
-    let op = op_row(opcode_at(code, o));
-    let flow = op.flow;
-    match flow {
-        Flow::On => go_on(code, o),
-        Flow::Ends => go_on(code, o),
-        Flow::Jumps => go_on(code, o),
+    match op_row(opcode_at(code, o)).flow {
+        Flow::On | Flow::Ends | Flow::Jumps => go_on(code, o),
         Flow::May => Moved::To(jump_target(code, o)),
     }
 }
 
-fn is_child(role: Role) -> bool
-    ensures { result ≡ format.is_child (role_of role) }
-{
-    match role {
-        Role::Plain => false,
-        Role::Reg => false,
-        Role::Pool => false,
-        Role::Sym => false,
-        Role::Child => true,
-    }
-}
-
-// Which operand numbers a child: 2 for the second, 3 for the third, 0 where none does.
-fn child_operand(op: OpRow) -> usize
+// Which operand numbers a child, if one does.
+fn child_operand(op: OpRow) -> Option<Operand>
     ensures { result ≡ child_among (row_of op) }
 {
-    let second = op.second;
-    if is_child(second) {
-        return 2;
+    if op.second == Role::Child {
+        return Some(Operand::Second);
     }
-    let third = op.third;
-    if is_child(third) {
-        return 3;
+    if op.third == Role::Child {
+        return Some(Operand::Third);
     }
-    0
+    None
 }
 
-// The number that the second operand (`n` is 2) or the third of the instruction at `o` holds.
-fn child_number(code: &[u8], o: usize, n: usize) -> usize
+// The number that an operand of the instruction at `o` holds.
+fn child_number(code: &[u8], o: usize, operand: Operand) -> usize
     requires { o < length code.now }
-    ensures { result ≡ child_number code.now o n }
+    ensures { result ≡ child_number code.now o operand }
 {
     let b = code[o];
     let second = o + lead(b) + 1 + first_width(b);
     let width = second_width(b);
-    if n == 2 {
-        return operand_at(code, second, width);
+    match operand {
+        Operand::Second => operand_at(code, second, width),
+        Operand::Third => operand_at(code, second + width, 1),
     }
-    operand_at(code, second + width, 1)
 }
 
 // Choice 2: at an opcode with a child operand the child is entered.
@@ -186,13 +154,14 @@ fn enter(code: &[u8], o: usize) -> Moved
     requires { Stands code.now o }
     ensures { move_of result ≡ format.move (part code.now []) o format.enter }
 {
-    let n = child_operand(op_row(opcode_at(code, o)));
-    if n == 0 {
-        return go_on(code, o);
+    match child_operand(op_row(opcode_at(code, o))) {
+        None => go_on(code, o),
+        Some(operand) => {
+            let child = child_number(code, o, operand);
+            let offset = next_offset(code, o);
+            Moved::Into { child, offset }
+        }
     }
-    let child = child_number(code, o, n);
-    let offset = next_offset(code, o);
-    Moved::Into { child, offset }
 }
 
 // Choice 3: handler `h` of the record's `number`, which stand from row `first` on, has its target taken.
@@ -253,20 +222,19 @@ pub fn move_in(
     move_at(&file[place..end], o, choice, handlers, first, number)
 }
 
+// The loop is by index, as the index is the answer.
 // Child `k` of record `r`: the next child starts where the previous one's subtree ends. `trees` are the subtrees still to pass.
 pub fn child_at(records: &[u32], n: usize, r: usize, k: usize) -> usize
     requires { (n ≤ 1024) × (n * record_width ≤ length records.now) × (r < n) × (k < 4294967296) }
     ensures { result ≡ child_of (rlens_at records.now n) r k }
 {
-    let mut i = r + 1;
     let mut trees = k;
-    while i < n {
+    for i in r + 1..n {
         if trees == 0 {
             return i;
         }
         let rlen = word(records, i * RECORD_WIDTH + 3);
         trees = trees - 1 + rlen;
-        i += 1;
     }
-    i
+    n
 }

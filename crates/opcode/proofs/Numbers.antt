@@ -1,13 +1,13 @@
--- The digits of an opcode byte: at a byte, above 118, each of them, and the row that they are of.
+-- The digits of an opcode byte: above 118, each of them, and the row that they are of.
 -- Assumes nothing.
-use Prim.Native.Nat.{ℕ, zero, suc, ◌+◌, ◌*◌, ◌/◌, ◌≤◌, ◌<◌}
+use Prim.Native.Nat.{ℕ, ◌+◌, ◌*◌, ◌/◌, ◌≤◌, ◌<◌}
 use native.Mathlib.Omega.{arith}
 use mathlib.Core.Path.{◌≡◌, refl, sym, ap, ◌∙◌}
 use mathlib.Core.Bool.{Bool, true, false, cond}
 use mathlib.Core.List.{[]}
 use lib.Dec.{eqb, eqb→eq}
 use lib.ListN.{get_or-eq_default}
-use borrow.Author.Tests.{le-ltb, ne_eqb}
+use borrow.Author.Tests.{le-ltb}
 use Rattle.format.specs.Insn.{Kind, Z, BB, B, BS, BSS, BBB, S, W, Role, reg, pool, sym as symbol, child, plain, Flow, on, ends, jumps, may, NOP, Row, op}
 use Rattle.format.specs.Insn.{table, name, kind, flow, row, size}
 use Rattle.format.specs.Sizes.{kind_number, among, have_first, have_second}
@@ -17,9 +17,6 @@ use Rattle.format.proofs.Prefix.{at_most_one, total_small}
 use Rattle.opcode.specs.Digits.{first_role, second_role, third_role, role_number, role_at, first_by, first_number, form_number, flag_inside, flag_last, flow_at, kind_at}
 use Rattle.opcode.specs.Digits.{size_in, first_in, second_in, inside_in, last_in, kind_in, first_byte_in, second_byte_in, third_in, form_in}
 use Rattle.opcode.specs.Digits.{first_byte, second_byte, row_digits, instruction, digits_of}
-
-pub at : {b k : ℕ} → b ≡ k → digits_of k ≡ digits_of b
-at e = ap digits_of (sym e)
 
 pub above : (b : ℕ) → 119 ≤ b → row_digits 0 (op NOP Z [] on) ≡ digits_of b
 unfolding row table

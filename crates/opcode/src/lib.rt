@@ -1,7 +1,7 @@
 // What is known of each opcode byte: operand kind, what its operands number, where a run goes on, size; and what each prefix says.
 #![tactic(auto)]
 
-ghost use Rattle.std.specs.Prelude.{◌≡◌};
+ghost use Rattle.std.specs.Prelude.{◌≡◌, ◌<◌};
 ghost use Rattle.format.specs.Insn as format;
 ghost use Rattle.opcode.specs.Digits.{role_at, kind_at, flow_at, digits_of};
 ghost use Rattle.opcode.specs.Rows.{role_of, flow_of, row_of, op_row};
@@ -16,7 +16,7 @@ use names::*;
 use parts::*;
 
 // What an operand numbers.
-#[derive(Drop)]
+#[derive(Clone, Copy, Debug, PartialEq, Eq)]
 pub enum Role {
     Plain,
     Reg,
@@ -26,7 +26,7 @@ pub enum Role {
 }
 
 // Where a run goes on: to the next offset; nowhere; to the jump target; to the next offset or the jump target.
-#[derive(Drop)]
+#[derive(Clone, Copy, Debug, PartialEq, Eq)]
 pub enum Flow {
     On,
     Ends,
@@ -35,7 +35,7 @@ pub enum Flow {
 }
 
 // Operand kind of an opcode, roles of its operands, and where a run goes on. An operand that it lacks is plain.
-#[derive(Drop)]
+#[derive(Clone, Copy, Debug, PartialEq, Eq)]
 pub struct OpRow {
     pub kind: Kind,
     pub first: Role,
@@ -44,22 +44,22 @@ pub struct OpRow {
     pub flow: Flow,
 }
 
-// Operand kinds by number, in the order of ops.h, each with the size that `Kind::size` answers.
-const Z: usize = 1;
+// Operand kinds by number, each with the size that `Kind::size` answers: a constant cannot call it.
+const Z: usize = Kind::Z as usize * KIND + 1;
 
-const BB: usize = KIND + FIRST_BYTE + SECOND_BYTE + 3;
+const BB: usize = Kind::BB as usize * KIND + FIRST_BYTE + SECOND_BYTE + 3;
 
-const B: usize = 2 * KIND + FIRST_BYTE + 2;
+const B: usize = Kind::B as usize * KIND + FIRST_BYTE + 2;
 
-const BS: usize = 3 * KIND + FIRST_BYTE + 4;
+const BS: usize = Kind::BS as usize * KIND + FIRST_BYTE + 4;
 
-const BSS: usize = 4 * KIND + FIRST_BYTE + 6;
+const BSS: usize = Kind::BSS as usize * KIND + FIRST_BYTE + 6;
 
-const BBB: usize = 5 * KIND + FIRST_BYTE + SECOND_BYTE + 4;
+const BBB: usize = Kind::BBB as usize * KIND + FIRST_BYTE + SECOND_BYTE + 4;
 
-const S: usize = 6 * KIND + 3;
+const S: usize = Kind::S as usize * KIND + 3;
 
-const W: usize = 7 * KIND + 4;
+const W: usize = Kind::W as usize * KIND + 4;
 
 // Where a run goes on, as the flags of an instruction that goes there.
 const ON: usize = PASSES * INSIDE + PAST * LAST;
@@ -144,6 +144,8 @@ const BB_HASHADD: usize = (NUMBER + OF_FIRST + 2 * OF_SECOND) * FORM + BB_REG;
 const NO_SIZE: usize = ON;
 
 // The digits of an opcode byte. Its size is 0 where it is no instruction by itself.
+// A line for each opcode, in the order of ops.h; arms joined by | are no plainer, and their proof does not close by itself.
+#[tactic(auto, unfolding(format::specs::Insn::row, format::specs::Insn::table, format::specs::Registers::form, format::specs::Registers::comments), using(crate::proofs::Numbers::above))]
 pub fn digits(b: u8) -> usize
     ensures { result ≡ digits_of b }
 {
@@ -285,37 +287,40 @@ fn role_of(n: usize) -> Role
     }
 }
 
+// The operand kinds by number. A digit of the table is below 8, so that no error is left for a TryFrom.
+const KINDS: [Kind; 8] = [
+    Kind::Z,
+    Kind::BB,
+    Kind::B,
+    Kind::BS,
+    Kind::BSS,
+    Kind::BBB,
+    Kind::S,
+    Kind::W,
+];
+
 // The operand kind of this number.
 fn kind_of(n: usize) -> Kind
+    requires { n < 8 }
     ensures { kind_of result ≡ kind_at n }
 {
-    match n {
-        0 => Kind::Z,
-        1 => Kind::BB,
-        2 => Kind::B,
-        3 => Kind::BS,
-        4 => Kind::BSS,
-        5 => Kind::BBB,
-        6 => Kind::S,
-        _ => Kind::W,
-    }
+    KINDS[n]
 }
 
 // Where a run goes on, by the flags inside a record and at its end.
 fn flow_of(inside: usize, last: usize) -> Flow
     ensures { flow_of result ≡ flow_at inside last }
 {
-    match last {
-        PASSES => Flow::Ends,
-        TARGET => Flow::Jumps,
-        _ => match inside {
-            PASSES => Flow::On,
-            _ => Flow::May,
-        },
+    match (inside, last) {
+        (_, PASSES) => Flow::Ends,
+        (_, TARGET) => Flow::Jumps,
+        (PASSES, _) => Flow::On,
+        _ => Flow::May,
     }
 }
 
 // The row of an opcode byte.
+#[tactic(auto, using(crate::proofs::Rows::row_told))]
 pub fn op_row(b: u8) -> OpRow
     ensures { row_of result ≡ op_row b }
 {
@@ -338,9 +343,7 @@ pub fn op_row(b: u8) -> OpRow
 pub fn size(b: u8) -> usize
     ensures { result ≡ format.size b }
 {
-    let op = op_row(b);
-    let kind = op.kind;
-    kind.size()
+    op_row(b).kind.size()
 }
 
 // What the first byte of an instruction says of it: how many bytes stand before its opcode byte,
@@ -348,9 +351,7 @@ pub fn lead(b: u8) -> usize
     ensures { result ≡ format.lead b }
 {
     match b {
-        EXT1 => 1,
-        EXT2 => 1,
-        EXT3 => 1,
+        EXT1 | EXT2 | EXT3 => 1,
         _ => 0,
     }
 }
@@ -360,8 +361,7 @@ pub fn first_width(b: u8) -> usize
     ensures { result ≡ format.first_width b }
 {
     match b {
-        EXT1 => 2,
-        EXT3 => 2,
+        EXT1 | EXT3 => 2,
         _ => 1,
     }
 }
@@ -371,8 +371,7 @@ pub fn second_width(b: u8) -> usize
     ensures { result ≡ format.second_width b }
 {
     match b {
-        EXT2 => 2,
-        EXT3 => 2,
+        EXT2 | EXT3 => 2,
         _ => 1,
     }
 }

@@ -1,4 +1,4 @@
-// The opcodes by name, in the order of their bytes.
+// The opcodes by name, in the order of their bytes. An enum is no plainer: to come to it from a byte takes a second list of as many lines.
 pub const NOP: u8 = 0;
 
 pub const MOVE: u8 = 1;

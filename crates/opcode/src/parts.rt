@@ -1,4 +1,7 @@
 // What is known of an opcode, as one number of digits of base 8: where its parts stand, and the numbers that they have.
+// One number is for speed: the examination reads the parts that it needs of each instruction with one look at the table.
+use crate::Role;
+
 pub const BASE: usize = 8;
 
 // The size, in the two lowest digits.
@@ -41,15 +44,15 @@ pub const ARGUMENTS_OF_SECOND: usize = 0o10000;
 pub const ARGUMENTS_OF_THIRD: usize = 0o100000;
 
 // Roles.
-pub const PLAIN: usize = 0;
+pub const PLAIN: usize = Role::Plain as usize;
 
-pub const REG: usize = 1;
+pub const REG: usize = Role::Reg as usize;
 
-pub const POOL: usize = 2;
+pub const POOL: usize = Role::Pool as usize;
 
-pub const SYM: usize = 3;
+pub const SYM: usize = Role::Sym as usize;
 
-pub const CHILD: usize = 4;
+pub const CHILD: usize = Role::Child as usize;
 
 // A register with what stands behind it: R[a] and R[a+1]; R[a] to R[a+2].
 pub const PAIR: usize = 5;

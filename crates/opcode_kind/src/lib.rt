@@ -6,7 +6,7 @@ ghost use Rattle.format.specs.Insn.{width};
 ghost use Rattle.opcode_kind.specs.Kinds.{kind_of};
 
 // Operand kinds: B a byte, S two bytes, W three.
-#[derive(Clone, Copy)]
+#[derive(Clone, Copy, Debug, PartialEq, Eq)]
 pub enum Kind {
     Z,
     BB,

@@ -1,10 +1,11 @@
--- What each case of a text's answer stands for: its place and length, or the paper's refusal number.
+-- A text and a range of rows as the definitions have them.
 -- Assumes nothing.
-use Rattle.format.specs.Bytes.{Answer, ok, refused}
-use Rattle.format.specs.Rows.{TextRow, text_row}
-use Rattle.ranges.specs.declared.TextAnswer.{TextAnswer}
-use Rattle.ranges.specs.declared.TextAnswer.TheVariants as text
+use Rattle.format.specs.Rows as format
+use Rattle.ranges.specs.declared.Range.{Range}
+use Rattle.ranges.specs.declared.Text.{Text}
 
-abbrev pub text_of : TextAnswer → Answer TextRow
-text_of (text.At place length) = ok (text_row place length)
-text_of (text.Refused e) = refused e
+abbrev pub text_of : Text → format.TextRow
+text_of t = format.text_row t.place t.length
+
+abbrev pub range_of : Range → format.Range
+range_of g = record { first = g.first; number = g.number }

@@ -4,30 +4,14 @@ use Rattle.std.specs.Prelude.{ℕ, ◌+◌, cond, ◌&&◌, List, ltb}
 use Rattle.format.specs.Bytes.{Answer, ok, refused, bind}
 use Rattle.format.specs.Rows.{Range, record_width}
 use Rattle.format.specs.Lookup.{record_word, range_at, has_row}
-use Rattle.ranges.specs.declared.Words.{Words}
-use Rattle.ranges.specs.declared.Words.TheVariants as words
-use Rattle.ranges.specs.declared.Row.{Row}
-use Rattle.ranges.specs.declared.Row.TheVariants as row
-
-abbrev pub range : ℕ → ℕ → Range
-range first number = record { first = first; number = number }
-
--- what is missing is refused
-abbrev pub words_of : Words → Answer Range
-words_of (words.At first second) = ok (range first second)
-words_of words.Missing = refused 22
-
-abbrev pub row_of : Row → Answer ℕ
-row_of (row.At i) = ok i
-row_of row.Missing = refused 22
 
 -- words k and k + 1 of a record's row
-unfoldable pub record_words : List ℕ → ℕ → ℕ → Answer Range
+abbrev pub record_words : List ℕ → ℕ → ℕ → Answer Range
 record_words t r k = cond (has_row record_width t r && ltb 0 (record_word t r 0)) (ok (range_at t r k)) (refused 22)
 
 -- which of a table's rows index i of a range is, and of the range that words k and k + 1 of a record's row are
-unfoldable pub row_among : ℕ → Range → ℕ → Answer ℕ
+abbrev pub row_among : ℕ → Range → ℕ → Answer ℕ
 row_among rows g i = cond (ltb i g.number && ltb (g.first + i) rows) (ok (g.first + i)) (refused 22)
 
-unfoldable pub record_row : List ℕ → ℕ → ℕ → ℕ → ℕ → Answer ℕ
+abbrev pub record_row : List ℕ → ℕ → ℕ → ℕ → ℕ → Answer ℕ
 record_row t r k rows i = bind (record_words t r k) (λ g. row_among rows g i)

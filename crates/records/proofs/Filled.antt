@@ -1,16 +1,15 @@
--- The list after i turns of `fill`: i rows of the words, and the rest as it was.
+-- One row more of `fill`.
 -- Assumes nothing.
-use mathlib.Core.Path.{◌≡◌, refl, sym, ◌∙◌, ap}
+use mathlib.Core.Path.{◌≡◌, ◌∙◌, ap}
 use Prim.Native.Nat.{ℕ, zero, suc, ◌+◌, ◌<◌}
 use native.Mathlib.Numerals.{add-one}
-use native.Mathlib.Nat.{le_of_eq, add-zero, add-suc, suc-add, zero-add}
-use mathlib.Core.List.{List, [], ◌∷◌, ◌++◌, append_assoc, append-nil}
-use lib.ListN.{length, drop, set, drop_of_length-le}
-use lib.Seq.{drop-cons, set_at}
+use native.Mathlib.Nat.{add-zero, add-suc, suc-add, zero-add}
+use mathlib.Core.List.{List, [], ◌∷◌, ◌++◌}
+use lib.ListN.{length, take, set}
+use Rattle.std.proofs.Math.Seq.{take-suc-set}
 use Rattle.format.specs.Line.{rows_from}
-use Rattle.format.proofs.RowsFrom.{rows_from_length}
 use Rattle.records_row.specs.declared.Record.{Record}
-use Rattle.records_row.specs.Row.{zero_row, row_at}
+use Rattle.records_row.specs.Row.{row_at}
 use Rattle.records.specs.Records.{rows_of}
 
 -- one row more at the end
@@ -19,22 +18,5 @@ unfolding rows_from
 rows_from_last f i zero = rw add-zero
 rows_from_last f i (suc n) = ap (λ l. f i ∷ l) (rows_from_last f (suc i) n ∙ rw (suc-add, ← add-suc))
 
-module _ (ws : List ℕ) (ys : List Record) where
-  unfoldable pub up_to : ℕ → List Record
-  up_to i = rows_of ws i ++ drop i ys
-
-  pub up_to_none : ys ≡ up_to 0
-  unfolding up_to rows_from
-  up_to_none = refl
-
-  pub up_to_more : (xs : List Record) (r : Record) (i : ℕ) → i < length ys → xs ≡ up_to i → r ≡ row_at ws i → set xs i r ≡ up_to (i + 1)
-  unfolding up_to
-  up_to_more xs r i h e f =
-      rw (e, f, add-one)
-      (ap (λ l. set (rows_of ws i ++ l) i (row_at ws i)) (drop-cons ys i zero_row h)
-      ∙ set_at (rows_of ws i) _ (drop (suc i) ys) (row_at ws i) i (rows_from_length (row_at ws) _ i)
-      ∙ sym (ap (λ l. l ++ drop (suc i) ys) (rows_from_last (row_at ws) _ i) ∙ rw zero-add (append_assoc (rows_of ws i) (row_at ws i ∷ []) (drop (suc i) ys))))
-
-  pub up_to_all : (i : ℕ) → i ≡ length ys → up_to i ≡ rows_of ws (length ys)
-  unfolding up_to
-  up_to_all i e = rw e (ap (λ l. rows_of ws (length ys) ++ l) (drop_of_length-le ys (le_of_eq refl)) ∙ append-nil _)
+pub filled_more : (ws : List ℕ) (xs : List Record) (i : ℕ) → i < length xs → take i xs ≡ rows_of ws i → take (i + 1) (set xs i (row_at ws i)) ≡ rows_of ws (i + 1)
+filled_more ws xs i h e = rw (add-one, take-suc-set xs i (row_at ws i) h, e, rows_from_last (row_at ws) 0 i, zero-add)

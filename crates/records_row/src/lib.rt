@@ -9,7 +9,7 @@ use format::RECORD_WIDTH;
 // A record's row, its words in their order. A kind's name is the first of its rows, and n before the name their number.
 // Depth is how many records lie above it in the tree, and parent the record right above, 65535 where there is none.
 #[repr(C)]
-#[derive(Clone, Copy)]
+#[derive(Clone, Copy, Default)]
 pub struct Record {
     pub size: u32,
     pub nlocals: u32,
@@ -35,35 +35,15 @@ pub struct Record {
 }
 
 // A row of zeros.
+#[tactic(auto, unfolding(crate::specs::Row::zero_row))]
 pub fn zero_row() -> Record
     ensures { result ≡ zero_row }
 {
-    Record {
-        size: 0,
-        nlocals: 0,
-        nregs: 0,
-        rlen: 0,
-        clen: 0,
-        ilen: 0,
-        place: 0,
-        handlers: 0,
-        nhandlers: 0,
-        pool: 0,
-        npool: 0,
-        symbols: 0,
-        nsymbols: 0,
-        names: 0,
-        nnames: 0,
-        files: 0,
-        nfiles: 0,
-        lines: 0,
-        nlines: 0,
-        depth: 0,
-        parent: 0,
-    }
+    Record::default()
 }
 
 // What the words of a record table say of row i; zeros past the last whole row.
+#[tactic(auto, unfolding(crate::specs::Row::row_at))]
 pub fn row_at(words: &[u32], i: usize) -> Record
     ensures { result ≡ row_at words.now i }
 {

@@ -9,13 +9,35 @@ use rite::Allowance;
 use std::io;
 use std::io::Read;
 use stored::{
-    State, ahead, answered, at_file, at_words, begun, ended, five_agree, least, next_group, word,
+    State, ahead, answered, at_file, at_words, begun, ended, five_agree, group_item, least, part,
+    word,
 };
+use tables::Tables;
 
 // The most words of a lent record table: those of the 1,024 rows that a load may fill, and of three rows more.
 const RECORD_WORDS: usize = (1024 + 3) * RECORD_WIDTH;
 
-// What a load, an examination or a follow answers, and the sum of its tables afterwards.
+// The most words of any other lent table, and of the frame table.
+const TABLE_WORDS: usize = 8192;
+
+const FRAME_WORDS: usize = 2048;
+
+// What each lent word holds before a call.
+const ANYTHING: u32 = 3735928559;
+
+// What is called: a load, an examination of the whole or of a single record, or a follow along choices over a frame table of so many words.
+#[derive(Clone, Copy)]
+enum Call<'a> {
+    Load,
+    Examine,
+    ExamineRecord(u32),
+    Follow {
+        frame_words: usize,
+        choices: &'a [u8],
+    },
+}
+
+// What a call answers, and the sum of its tables afterwards.
 #[derive(Drop)]
 struct Outcome {
     numbers: [u32; 11],
@@ -29,10 +51,6 @@ fn size(all: &[u8], at: usize, most: usize) -> usize
     least(word(all, at) as usize, most)
 }
 
-fn print_number(rt: &impl Print, n: u32) -> io::Result<()> {
-    print!(rt; " {n}")
-}
-
 fn sum_step(sum: u64, w: u32) -> u64 {
     (sum % 4294967291 * 65599 + (w as u64) + 1) % 4294967291
 }
@@ -40,34 +58,33 @@ fn sum_step(sum: u64, w: u32) -> u64 {
 // The sum of a table's words, behind that of the tables before it.
 fn sum(words: &[u32], before: u64) -> u64 {
     let mut s = before;
-    for i in 0..words.len() {
-        s = sum_step(s, words[i]);
+    for w in words {
+        s = sum_step(s, *w);
     }
     s
 }
 
-fn sum_of_all(
-    records: &[u32],
-    handlers: &[u32],
-    pool: &[u32],
-    symbols: &[u32],
-    strings: &[u32],
-    names: &[u32],
-    filenames: &[u32],
-    files: &[u32],
-    lines: &[u32],
-) -> u64 {
-    let s1 = sum(records, 0);
-    let s2 = sum(handlers, s1);
-    let s3 = sum(pool, s2);
-    let s4 = sum(symbols, s3);
-    let s5 = sum(strings, s4);
-    let s6 = sum(names, s5);
-    let s7 = sum(filenames, s6);
-    let s8 = sum(files, s7);
-    sum(lines, s8)
+fn sum_of_all(t: &Tables, frames: &[u32]) -> u64 {
+    let tables = [
+        &*t.records,
+        &*t.handlers,
+        &*t.pool,
+        &*t.symbols,
+        &*t.strings,
+        &*t.names,
+        &*t.filenames,
+        &*t.files,
+        &*t.lines,
+        frames,
+    ];
+    let mut s = 0;
+    for words in tables {
+        s = sum(words, s);
+    }
+    s
 }
 
+// Answers are compared as arrays of eleven numbers, by functions: `From` cannot stand here, as array and struct are both of other crates.
 fn of_loaded(r: BlotheathLoaded) -> [u32; 11] {
     [
         r.refusal,
@@ -116,236 +133,116 @@ fn allowance_of(all: &[u8], s: State) -> Allowance {
     }
 }
 
-// A load, an examination of the whole or of a single record, or a follow, by the kind of its item.
-fn call(
-    kind: u32,
+fn answer(
+    call: Call,
     file: &[u8],
-    records: &mut [u32],
-    handlers: &mut [u32],
-    pool: &mut [u32],
-    symbols: &mut [u32],
-    strings: &mut [u32],
-    names: &mut [u32],
-    filenames: &mut [u32],
-    files: &mut [u32],
-    lines: &mut [u32],
+    t: &mut Tables,
     frames: &mut [u32],
-    choices: &[u8],
     allowance: Allowance,
     permitted: &[u8],
-    rec: u32,
 ) -> [u32; 11] {
-    match kind {
-        2 => of_loaded(boundary::loaded(rite::load(
-            file, records, handlers, pool, symbols, strings, names, filenames, files, lines,
-            allowance,
+    match call {
+        Call::Load => of_loaded(boundary::loaded(rite::load(file, t, allowance))),
+        Call::Examine => of_loaded(boundary::loaded(examine::examine(
+            file, t, allowance, permitted,
         ))),
-        7 => of_loaded(boundary::loaded(examine::examine(
-            file, records, handlers, pool, symbols, strings, names, filenames, files, lines,
-            allowance, permitted,
+        Call::ExamineRecord(rec) => of_loaded(boundary::loaded(examine::examine_record(
+            file, t, allowance, permitted, rec,
         ))),
-        11 => of_loaded(boundary::loaded(examine::examine_record(
-            file, records, handlers, pool, symbols, strings, names, filenames, files, lines,
-            allowance, permitted, rec,
-        ))),
-        _ => of_followed(boundary::followed(follow::follow(
-            file, records, handlers, pool, symbols, strings, names, filenames, files, lines,
-            frames, choices, allowance, permitted,
+        Call::Follow { choices, .. } => of_followed(boundary::followed(follow::follow(
+            file, t, frames, choices, allowance, permitted,
         ))),
     }
-}
-
-fn call_summed(
-    kind: u32,
-    file: &[u8],
-    records: &mut [u32],
-    handlers: &mut [u32],
-    pool: &mut [u32],
-    symbols: &mut [u32],
-    strings: &mut [u32],
-    names: &mut [u32],
-    filenames: &mut [u32],
-    files: &mut [u32],
-    lines: &mut [u32],
-    frames: &mut [u32],
-    choices: &[u8],
-    allowance: Allowance,
-    permitted: &[u8],
-    rec: u32,
-) -> Outcome {
-    let numbers = call(
-        kind, file, records, handlers, pool, symbols, strings, names, filenames, files, lines,
-        frames, choices, allowance, permitted, rec,
-    );
-    let of_nine = sum_of_all(
-        records, handlers, pool, symbols, strings, names, filenames, files, lines,
-    );
-    let sum = sum(frames, of_nine);
-    Outcome { numbers, sum }
 }
 
 // A call over tables of nine sizes that stand at a place, and over a frame table; they hold anything before it.
 fn call_sized(
-    kind: u32,
+    call: Call,
     file: &[u8],
     all: &[u8],
     at: usize,
-    frame_words: usize,
-    choices: &[u8],
     allowance: Allowance,
     permitted: &[u8],
-    rec: u32,
 ) -> Outcome {
-    let mut records = [3735928559u32; RECORD_WORDS];
-    let mut handlers = [3735928559u32; 8192];
-    let mut pool = [3735928559u32; 8192];
-    let mut symbols = [3735928559u32; 8192];
-    let mut strings = [3735928559u32; 8192];
-    let mut names = [3735928559u32; 8192];
-    let mut filenames = [3735928559u32; 8192];
-    let mut files = [3735928559u32; 8192];
-    let mut lines = [3735928559u32; 8192];
-    let mut frames = [3735928559u32; 2048];
-    let a = size(all, at, RECORD_WORDS);
-    let b = size(all, ahead(at, 4), 8192);
-    let c = size(all, ahead(at, 8), 8192);
-    let d = size(all, ahead(at, 12), 8192);
-    let e = size(all, ahead(at, 16), 8192);
-    let f = size(all, ahead(at, 20), 8192);
-    let g = size(all, ahead(at, 24), 8192);
-    let h = size(all, ahead(at, 28), 8192);
-    let i = size(all, ahead(at, 32), 8192);
-    let j = least(frame_words, 2048);
-    call_summed(
-        kind,
-        file,
-        &mut records[0..a],
-        &mut handlers[0..b],
-        &mut pool[0..c],
-        &mut symbols[0..d],
-        &mut strings[0..e],
-        &mut names[0..f],
-        &mut filenames[0..g],
-        &mut files[0..h],
-        &mut lines[0..i],
-        &mut frames[0..j],
-        choices,
-        allowance,
-        permitted,
-        rec,
-    )
+    let mut records = [ANYTHING; RECORD_WORDS];
+    let mut handlers = [ANYTHING; TABLE_WORDS];
+    let mut pool = [ANYTHING; TABLE_WORDS];
+    let mut symbols = [ANYTHING; TABLE_WORDS];
+    let mut strings = [ANYTHING; TABLE_WORDS];
+    let mut names = [ANYTHING; TABLE_WORDS];
+    let mut filenames = [ANYTHING; TABLE_WORDS];
+    let mut files = [ANYTHING; TABLE_WORDS];
+    let mut lines = [ANYTHING; TABLE_WORDS];
+    let mut frames = [ANYTHING; FRAME_WORDS];
+    let frame_words = match call {
+        Call::Follow { frame_words, .. } => least(frame_words, FRAME_WORDS),
+        _ => 0,
+    };
+    let mut t = Tables {
+        records: &mut records[..size(all, at, RECORD_WORDS)],
+        handlers: &mut handlers[..size(all, ahead(at, 4), TABLE_WORDS)],
+        pool: &mut pool[..size(all, ahead(at, 8), TABLE_WORDS)],
+        symbols: &mut symbols[..size(all, ahead(at, 12), TABLE_WORDS)],
+        strings: &mut strings[..size(all, ahead(at, 16), TABLE_WORDS)],
+        names: &mut names[..size(all, ahead(at, 20), TABLE_WORDS)],
+        filenames: &mut filenames[..size(all, ahead(at, 24), TABLE_WORDS)],
+        files: &mut files[..size(all, ahead(at, 28), TABLE_WORDS)],
+        lines: &mut lines[..size(all, ahead(at, 32), TABLE_WORDS)],
+    };
+    let frames = &mut frames[..frame_words];
+    let numbers = answer(call, file, &mut t, frames, allowance, permitted);
+    let sum = sum_of_all(&t, frames);
+    Outcome { numbers, sum }
 }
 
-// Whether a call on a file answers as stored, for a list of permitted opcodes; the nine sizes stand first, then the answer.
-fn call_listed(
-    kind: u32,
-    all: &[u8],
-    s: State,
-    at: usize,
-    frame_words: usize,
-    choices: &[u8],
-    permitted: &[u8],
-    rec: u32,
-) -> bool {
-    let end = least(ahead(s.file, s.bytes), all.len());
-    let start = least(s.file, end);
-    let o = call_sized(
-        kind,
-        &all[start..end],
-        all,
-        at,
-        frame_words,
-        choices,
-        allowance_of(all, s),
-        permitted,
-        rec,
-    );
+// Whether a call answers as stored, for a list of permitted opcodes; the nine sizes stand first, then the answer.
+fn call_listed(call: Call, all: &[u8], s: State, at: usize, permitted: &[u8]) -> bool {
+    let file = part(all, s.file, s.bytes);
+    let o = call_sized(call, file, all, at, allowance_of(all, s), permitted);
     outcome_agrees(o, all, ahead(at, 36))
 }
 
 // The same for the list behind the allowance, or for one that permits everything.
-fn call_at(
-    kind: u32,
-    all: &[u8],
-    s: State,
-    at: usize,
-    frame_words: usize,
-    choices: &[u8],
-    rec: u32,
-) -> bool {
+fn call_agrees(call: Call, all: &[u8], s: State, at: usize) -> bool {
     if s.rows <= ALLOWANCE_WORDS {
-        let everything = [1u8; OPCODES];
-        return call_listed(kind, all, s, at, frame_words, choices, &everything, rec);
+        return call_listed(call, all, s, at, &[1u8; OPCODES]);
     }
-    let list = ahead(s.map, 12);
     let bytes = word(all, ahead(s.map, 8)) as usize;
-    let end = least(ahead(list, bytes), all.len());
-    let start = least(list, end);
-    call_listed(
-        kind,
-        all,
-        s,
-        at,
-        frame_words,
-        choices,
-        &all[start..end],
-        rec,
-    )
+    call_listed(call, all, s, at, part(all, ahead(s.map, 12), bytes))
 }
 
-// A load or an examination.
-fn load_item(kind: u32, all: &[u8], s: State) -> State {
-    answered(
-        s,
-        call_at(kind, all, s, ahead(s.at, 4), 0, &all[0..0], 0),
-        88,
-    )
+// The item of a call, of so many bytes.
+fn call_item(call: Call, all: &[u8], s: State, bytes: usize) -> State {
+    answered(s, call_agrees(call, all, s, ahead(s.at, 4)), bytes)
 }
 
 // An examination of a single record, whose number stands last.
 fn single_item(all: &[u8], s: State) -> State {
     let rec = word(all, ahead(s.at, 88));
-    answered(
-        s,
-        call_at(11, all, s, ahead(s.at, 4), 0, &all[0..0], rec),
-        92,
-    )
+    call_item(Call::ExamineRecord(rec), all, s, 92)
 }
 
 fn follow_item(all: &[u8], s: State) -> State {
     let frame_words = word(all, ahead(s.at, 88)) as usize;
     let bytes = word(all, ahead(s.at, 92)) as usize;
-    let choices = ahead(s.at, 96);
-    let end = least(ahead(choices, bytes), all.len());
-    let start = least(choices, end);
-    let agrees = call_at(8, all, s, ahead(s.at, 4), frame_words, &all[start..end], 0);
-    answered(s, agrees, ahead(bytes, 96))
-}
-
-fn print_part(rt: &impl Print, all: &[u8], at: usize, bytes: usize) -> io::Result<()> {
-    let end = least(ahead(at, bytes), all.len());
-    let start = least(at, end);
-    rt.write_all(&all[start..end])
-}
-
-// The end of a group: its name, answers and differences.
-fn group_item(rt: &impl Print, all: &[u8], s: State) -> io::Result<State> {
-    let bytes = word(all, ahead(s.at, 4)) as usize;
-    print_part(rt, all, ahead(s.at, 8), bytes)?;
-    print!(rt; ":")?;
-    print_number(rt, s.answers)?;
-    print!(rt; " answers, differences")?;
-    print_number(rt, s.differences)?;
-    print!(rt; "\n")?;
-    Ok(next_group(s, bytes))
+    let choices = part(all, ahead(s.at, 96), bytes);
+    call_item(
+        Call::Follow {
+            frame_words,
+            choices,
+        },
+        all,
+        s,
+        ahead(bytes, 96),
+    )
 }
 
 fn item(rt: &impl Print, all: &[u8], s: State) -> io::Result<State> {
     match word(all, s.at) {
         1 => Ok(at_file(all, s)),
-        2 => Ok(load_item(2, all, s)),
+        2 => Ok(call_item(Call::Load, all, s, 88)),
         4 => Ok(at_words(all, s)),
-        7 => Ok(load_item(7, all, s)),
+        7 => Ok(call_item(Call::Examine, all, s, 88)),
         8 => Ok(follow_item(all, s)),
         11 => Ok(single_item(all, s)),
         6 => group_item(rt, all, s),
@@ -353,14 +250,14 @@ fn item(rt: &impl Print, all: &[u8], s: State) -> io::Result<State> {
     }
 }
 
+// Each replay has its loop: one for both would be a public function with nothing to promise, since a clause says nothing of what is printed.
 fn replay(rt: &impl Print, all: &[u8]) -> io::Result<()> {
     let mut s = begun();
-    let mut turns = 1000000u32;
-    while turns > 0 {
-        turns -= 1;
-        if s.going {
-            s = item(rt, all, s)?;
+    for _ in 0..1000000u32 {
+        if !s.going {
+            return Ok(());
         }
+        s = item(rt, all, s)?;
     }
     Ok(())
 }

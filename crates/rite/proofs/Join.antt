@@ -6,6 +6,7 @@ use mathlib.Core.Path.{◌≡◌, refl, sym, ap, subst, ◌∙◌}
 use mathlib.Core.Bool.{Bool, true, false, cond}
 use mathlib.Core.List.{List, []}
 use mathlib.Core.Option.{Option, none, some}
+use Rattle.std.specs.Prelude.{Option as Optional, Some, None}
 use lib.Dec.{eqb, ltb}
 use lib.ListN.{length, get_or, drop}
 use borrow.Author.Tests.{le-ltb}
@@ -19,18 +20,22 @@ use Rattle.format.specs.Debug.{File, Debug, debug_section}
 use Rattle.format.specs.File.{Content, content, nothing, is_mark, once, after_irep, end_section, section_at, sections, file_refusal, file_reading}
 use Rattle.format.specs.Tree.{nodes}
 use Rattle.format.specs.Load as format
-use Rattle.format.specs.Load.{Nine, Words, Tables, record_rows, tables_of, words_of, records_of, names_of, files_of, joined, start, used, visits_of, counts, fits, ending, loading_within}
+use Rattle.format.specs.Walk.{visits}
+use Rattle.format.specs.Load.{Nine, Words, Tables, map_of_files, record_rows, tables_of, words_of, records_of, names_of, files_of, joined, start, used, visits_of, counts, fits, ending, loading_within}
 use Rattle.rows.specs.Table.{row_count}
 use Rattle.rows.proofs.Join.{Ran, length_table}
 use Rattle.irep.specs.declared.Limits.{Limits}
+use Rattle.irep.specs.declared.Used.{Used as IrepUsed}
 use Rattle.irep.specs.Record.{irep_of}
 use Rattle.irep.proofs.Join as irep
 use Rattle.irep.proofs.Join.{held, lent_of, IrepRan, irep_ran}
+use Rattle.lvar.specs.declared.Used.{Used as LvarUsed}
 use Rattle.lvar.specs.Names.{in_word}
 use Rattle.lvar.proofs.Join as lvar
 use Rattle.lvar.proofs.Join.{lvar_ran}
 use Rattle.debug.proofs.Join as debug
 use Rattle.debug.proofs.Join.{debug_ran}
+use Rattle.debug.specs.declared.Used.{Used as DbgUsed}
 use Rattle.debug.specs.Section.{debug_of}
 use Rattle.rite_parents.specs.Nodes.{rlens_in, nodes_in}
 use Rattle.rite_parents.proofs.Laid.{parents_laid}
@@ -40,14 +45,12 @@ use Rattle.bounds.proofs.Grows.{Ordered, Less, same, Grown, section_grows, secti
 use Rattle.rite.proofs.Fits.{Room, room_less, fits_true, fits_false}
 use Rattle.sections.specs.declared.Used.{Used}
 use Rattle.sections.specs.declared.Progress.{Progress}
-use Rattle.sections.specs.declared.Section.TheVariants as section
+use Rattle.sections.specs.declared.Section.{Section}
 use Rattle.marks.specs.declared.Mark.TheVariants as mark_is
-use Rattle.file.specs.declared.Loaded.{Loaded}
-use Rattle.file.specs.declared.Loaded.TheVariants as loaded_is
-use Rattle.rite.specs.Answers.{words, loaded_of, allowed_by, load_within}
+use Rattle.rite.specs.Answers.{words, counts_of, allowed_by, load_within}
 use Rattle.marks.specs.Marks.{mark_of}
-use Rattle.sections.specs.Sections.{begun, irep_out_of, lvar_out_of, dbg_out_of, end_out_of}
-use Rattle.file.specs.File.{Out, out, by_mark, FileOut, loaded, section_out, sections_out, file_out}
+use Rattle.sections.specs.Sections.{begun, used_of, irep_out_of, lvar_out_of, dbg_out_of}
+use Rattle.file.specs.File.{Out, out, by_mark, section_out, sections_out, file_out}
 
 -- the rows as the sections leave them: no record has a parent yet
 abbrev unlinked : Content → Tables
@@ -71,9 +74,20 @@ linked n t =
     words (nodes_in t.records 0 (nodes (rlens_in t.records 0 n))) t.handlers t.pool t.symbols t.strings t.names t.file_names t.files t.lines
 
 -- how far reading has come, by what was read
-abbrev is_some : {A : Type 0} → Option A → Bool
-is_some none = false
-is_some (some a) = true
+abbrev irep_uses : Option (List Rec) → Optional IrepUsed
+irep_uses none = None
+irep_uses (some rs) = let b = held rs in Some (record { records = length rs; handlers = length b.handlers; pool = length b.pool; symbols = length b.symbols })
+
+abbrev lvar_uses : List Rec → Option Lvar → Optional LvarUsed
+lvar_uses rs none = None
+lvar_uses rs (some l) = Some (record { strings = length l.strings; names = length (joined l.names); visits = in_word (visits rs 1) })
+
+abbrev dbg_uses : Option Debug → Optional DbgUsed
+dbg_uses none = None
+dbg_uses (some d) = let fs = joined d.files in Some (record { file_names = length d.file_names; files = length fs; lines = length (map_of_files fs) })
+
+abbrev progress_of : Content → Progress
+progress_of c = record { irep = irep_uses c.irep; lvar = lvar_uses (records_of c) c.lvar; dbg = dbg_uses c.dbg }
 
 abbrev used_in : Content → Used
 used_in c =
@@ -91,8 +105,15 @@ used_in c =
       visits = in_word (visits_of c);
     }
 
-abbrev progress_of : Content → Progress
-progress_of c = record { irep = is_some c.irep; lvar = is_some c.lvar; dbg = is_some c.dbg; used = used_in c }
+used_is : (i : Option (List Rec)) (l : Option Lvar) (d : Option Debug) → used_of (progress_of (content i l d)) ≡ used_in (content i l d)
+used_is none none none = refl
+used_is none none (some d) = refl
+used_is none (some l) none = refl
+used_is none (some l) (some d) = refl
+used_is (some rs) none none = refl
+used_is (some rs) none (some d) = refl
+used_is (some rs) (some l) none = refl
+used_is (some rs) (some l) (some d) = refl
 
 -- one section over tables that hold what was read before it
 module _ (limit : Limits) (m : Nine) (f : List ℕ) (at : ℕ) where
@@ -100,13 +121,13 @@ module _ (limit : Limits) (m : Nine) (f : List ℕ) (at : ℕ) where
   W c = words_of m (unlinked c)
 
   -- a section's answer goes with its reading
-  abbrev pub SectionRan : Part Content → Out → Type 0
+  abbrev pub SectionRan : Part Content → Out Section → Type 0
   SectionRan p o =
-      Ran p.end (Room limit.most m p.it) (λ size. o ≡ out (section.Next size (progress_of p.it)) (W p.it)) (λ k. o.ans ≡ section.Refused k)
+      Ran p.end (Room limit.most m p.it) (λ size. o ≡ out (ok (record { size = size; progress = progress_of p.it })) (W p.it)) (λ k. o.ans ≡ refused k)
 
   irep_section_lem : (i : Option (List Rec)) (l : Option Lvar) (d : Option Debug) → Ordered i l d → Room limit.most m (content i l d)
       → SectionRan (once i (content i l d) (let s = irep_section (drop at f) at limit.allowed in part (content (some s.rows) l d) s.end))
-      (by_mark f limit at (W (content i l d)) (progress_of (content i l d)) mark_is.Irep)
+      (by_mark f limit at (W (content i l d)) (progress_of (content i l d)) (Some mark_is.Irep))
   unfolding irep_out_of
   irep_section_lem (some rs) l d o r = Ran.stop 6 refl r refl
   irep_section_lem none none none o r = by_run (irep_ran limit m (drop at f) at)
@@ -131,7 +152,7 @@ module _ (limit : Limits) (m : Nine) (f : List ℕ) (at : ℕ) where
 
       by_run : IrepRan limit m (irep_section (drop at f) at limit.allowed) (irep_of (drop at f) at limit (lent_of m (held [])))
           → SectionRan (let s = irep_section (drop at f) at limit.allowed in part (content (some s.rows) none none) s.end)
-          (by_mark f limit at (W nothing) (progress_of nothing) mark_is.Irep)
+          (by_mark f limit at (W nothing) (progress_of nothing) (Some mark_is.Irep))
       by_run (Ran.went size e x d) = rw (d, rows_length (irep_section (drop at f) at limit.allowed).rows start [] [] []) (Ran.went size e (room x) refl)
       by_run (Ran.stop k e x d) = rw d (Ran.stop k e (room x) refl)
       by_run (Ran.full x d) =
@@ -180,7 +201,7 @@ module _ (limit : Limits) (m : Nine) (f : List ℕ) (at : ℕ) where
         }
 
     lvar_run : lvar.SectionRan m (drop at f) at rs fss
-        → SectionRan (part (content (some rs) (some P.it) d) P.end) (by_mark f limit at (W (content (some rs) none d)) (progress_of (content (some rs) none d)) mark_is.Lvar)
+        → SectionRan (part (content (some rs) (some P.it) d) P.end) (by_mark f limit at (W (content (some rs) none d)) (progress_of (content (some rs) none d)) (Some mark_is.Lvar))
     unfolding lvar_out_of
     lvar_run (Ran.went size e x g) = rw (counted (content (some rs) none d) r, g) (Ran.went size e (lvar_room x) refl)
     lvar_run (Ran.stop k e x g) = rw (counted (content (some rs) none d) r, g) (Ran.stop k e (lvar_room x) refl)
@@ -188,7 +209,7 @@ module _ (limit : Limits) (m : Nine) (f : List ℕ) (at : ℕ) where
 
   lvar_section_lem : (i : Option (List Rec)) (l : Option Lvar) (d : Option Debug) → Ordered i l d → Room limit.most m (content i l d)
       → SectionRan (after_irep (content i l d) (λ rs. once l (content i l d) (let s = lvar_section (drop at f) at rs in part (content i (some s.it) d) s.end)))
-      (by_mark f limit at (W (content i l d)) (progress_of (content i l d)) mark_is.Lvar)
+      (by_mark f limit at (W (content i l d)) (progress_of (content i l d)) (Some mark_is.Lvar))
   unfolding lvar_out_of
   lvar_section_lem none l d o r = Ran.stop 6 refl r refl
   lvar_section_lem (some rs) (some l) d o r = Ran.stop 6 refl r refl
@@ -221,7 +242,7 @@ module _ (limit : Limits) (m : Nine) (f : List ℕ) (at : ℕ) where
         }
 
     dbg_run : debug.SectionRan m at rs nss Q (debug_of (drop at f) at (length rs) (debug.held_debug m at rs nss (record { file_names = []; files = [] })))
-        → SectionRan (part (content (some rs) l (some Q.it)) Q.end) (by_mark f limit at (W (content (some rs) l none)) (progress_of (content (some rs) l none)) mark_is.Dbg)
+        → SectionRan (part (content (some rs) l (some Q.it)) Q.end) (by_mark f limit at (W (content (some rs) l none)) (progress_of (content (some rs) l none)) (Some mark_is.Dbg))
     unfolding dbg_out_of
     dbg_run (Ran.went size e x g) = rw (counted (content (some rs) l none) r, g) (Ran.went size e (dbg_room x) refl)
     dbg_run (Ran.stop k e x g) = rw (counted (content (some rs) l none) r, g) (Ran.stop k e (dbg_room x) refl)
@@ -229,21 +250,21 @@ module _ (limit : Limits) (m : Nine) (f : List ℕ) (at : ℕ) where
 
   dbg_section : (i : Option (List Rec)) (l : Option Lvar) (d : Option Debug) → Ordered i l d → Room limit.most m (content i l d)
       → SectionRan (after_irep (content i l d) (λ rs. once d (content i l d) (let s = debug_section (drop at f) at rs in part (content i l (some s.it)) s.end)))
-      (by_mark f limit at (W (content i l d)) (progress_of (content i l d)) mark_is.Dbg)
+      (by_mark f limit at (W (content i l d)) (progress_of (content i l d)) (Some mark_is.Dbg))
   unfolding dbg_out_of
   dbg_section none l d o r = Ran.stop 6 refl r refl
   dbg_section (some rs) l (some d) o r = Ran.stop 6 refl r refl
   dbg_section (some rs) l none o r = dbg_run rs l r (debug_ran m at rs (names_of (content (some rs) l none)) (drop at f))
 
   -- END
-  end_section_lem : (c : Content) → Room limit.most m c → (x : Answer ℕ) → SectionRan (part c x) (out (on_answer x (λ size. section.Next size (progress_of c)) section.Refused) (W c))
+  end_section_lem : (c : Content) → Room limit.most m c → (x : Answer ℕ) → SectionRan (part c x) (out (on_answer x (λ size. ok (record { size = size; progress = progress_of c })) refused) (W c))
   end_section_lem c r (ok size) = Ran.went size refl r refl
   end_section_lem c r (refused k) = Ran.stop k refl r refl
 
   -- the section at a place, by its mark
   pub section_ran : (i : Option (List Rec)) (l : Option Lvar) (d : Option Debug) → Ordered i l d → Room limit.most m (content i l d)
       → SectionRan (section_at f limit.allowed (content i l d) at) (section_out f limit at (W (content i l d)) (progress_of (content i l d)))
-  unfolding section_at section_out mark_of end_out_of
+  unfolding section_at section_out mark_of
   section_ran i l d o r = by_mark_lem (is_mark f at mark.irep) (is_mark f at mark.lvar) (is_mark f at mark.dbg) (is_mark f at mark.end)
     where
       by_mark_lem : (p q s e : Bool)
@@ -252,33 +273,27 @@ module _ (limit : Limits) (m : Nine) (f : List ℕ) (at : ℕ) where
           (cond q (after_irep (content i l d) (λ rs. once l (content i l d) (let s = lvar_section (drop at f) at rs in part (content i (some s.it) d) s.end)))
           (cond s (after_irep (content i l d) (λ rs. once d (content i l d) (let s = debug_section (drop at f) at rs in part (content i l (some s.it)) s.end)))
           (cond e (part (content i l d) (end_section (drop at f))) (part (content i l d) (refused 5))))))
-          (by_mark f limit at (W (content i l d)) (progress_of (content i l d)) (cond p mark_is.Irep (cond q mark_is.Lvar (cond s mark_is.Dbg (cond e mark_is.End mark_is.Unknown)))))
+          (by_mark f limit at (W (content i l d)) (progress_of (content i l d)) (cond p (Some mark_is.Irep) (cond q (Some mark_is.Lvar) (cond s (Some mark_is.Dbg) (cond e (Some mark_is.End) None)))))
       by_mark_lem true q s e = irep_section_lem i l d o r
       by_mark_lem false true s e = lvar_section_lem i l d o r
       by_mark_lem false false true e = dbg_section i l d o r
       by_mark_lem false false false true = end_section_lem (content i l d) r (end_section (drop at f))
       by_mark_lem false false false false = Ran.stop 5 refl r refl
 
--- where a load went on, the rows used with the tables; where it was refused, zeros
-abbrev pub on_loaded : {A : Type 0} → Loaded → (Used → A) → (ℕ → A) → A
-on_loaded (loaded_is.Rows u) k e = k u
-on_loaded (loaded_is.Refused n) k e = e n
-
 -- a load that went on is not refused
-abbrev WentOn : Loaded → Type 0
-WentOn (loaded_is.Rows u) = Unit {0}
-WentOn (loaded_is.Refused n) = ⊥
+abbrev WentOn : Answer Used → Type 0
+WentOn (ok u) = Unit {0}
+WentOn (refused n) = ⊥
 
-rows_refused : {u : Used} {n : ℕ} → loaded_is.Rows u ≡ loaded_is.Refused n → ⊥
+rows_refused : {u : Used} {n : ℕ} → ok u ≡ refused n → ⊥
 rows_refused e = subst WentOn e tt
 
 module _ (limit : Limits) (m : Nine) (f : List ℕ) where
   abbrev held_words : Content → Words
   held_words c = words_of m (unlinked c)
 
-  abbrev FileRan : Part Content → FileOut → Type 0
-  FileRan p o =
-      Ran p.end (Room limit.most m p.it) (λ _. o ≡ loaded (loaded_is.Rows (used_in p.it)) (held_words p.it)) (λ k. o.ans ≡ loaded_is.Refused k)
+  abbrev FileRan : Part Content → Out Used → Type 0
+  FileRan p o = Ran p.end (Room limit.most m p.it) (λ _. o ≡ out (ok (used_in p.it)) (held_words p.it)) (λ k. o.ans ≡ refused k)
 
   -- what comes behind a section only adds
   rest_grows : (n : ℕ) (c : Content) (at : ℕ) → Ordered c.irep c.lvar c.dbg → (e : Answer ℕ)
@@ -289,7 +304,7 @@ module _ (limit : Limits) (m : Nine) (f : List ℕ) where
   sections_ran : (n : ℕ) (c : Content) (at : ℕ) → Ordered c.irep c.lvar c.dbg → Room limit.most m c
       → FileRan (sections f limit.allowed n c at) (sections_out f limit n at (held_words c) (progress_of c))
   unfolding sections sections_out
-  sections_ran zero c at o r = Ran.went at refl r refl
+  sections_ran zero c at o r = rw (used_is c.irep c.lvar c.dbg) (Ran.went at refl r refl)
   sections_ran (suc n) c at o r = by_there (has f at 4) refl (sections_ran n)
     where
       IH : Type 0
@@ -311,7 +326,7 @@ module _ (limit : Limits) (m : Nine) (f : List ℕ) where
 
       by_there : (b : Bool) → has f at 4 ≡ b → IH → Goal
       by_there true h ih = by_section h ih (section_ran limit m f at c.irep c.lvar c.dbg o r)
-      by_there false h ih = rw h (Ran.went at refl r refl)
+      by_there false h ih = rw (h, used_is c.irep c.lvar c.dbg) (Ran.went at refl r refl)
 
   nothing_room : Room limit.most m nothing
   nothing_room =
@@ -338,7 +353,7 @@ module _ (limit : Limits) (m : Nine) (f : List ℕ) where
 
       by_tests : (b : Bool)
           → FileRan (cond b (sections f limit.allowed (length f) nothing 20) (part nothing (refused n)))
-          (cond b (sections_out f limit (length f) 20 (held_words nothing) begun) (loaded (loaded_is.Refused n) (held_words nothing)))
+          (cond b (sections_out f limit (length f) 20 (held_words nothing) begun) (out (refused n) (held_words nothing)))
       by_tests true = sections_ran (length f) nothing 20 tt nothing_room
       by_tests false = Ran.stop n refl nothing_room refl
 
@@ -349,7 +364,7 @@ pub record Linkable (n : ℕ) (t : Words) : Type 0 where
 
 -- THE JOIN: what the sections over zeroed tables come to is the load of the file's reading, whatever is allowed
 module _ (limit : Limits) (few : limit.most ≤ 1024) (m : Nine) (f : List ℕ) (bytes : (i : ℕ) → get_or f i 0 < 256) where
-  abbrev o : FileOut
+  abbrev o : Out Used
   o = file_out f limit (words_of m (tables_of nothing))
 
   abbrev p : Part Content
@@ -373,7 +388,11 @@ module _ (limit : Limits) (few : limit.most ≤ 1024) (m : Nine) (f : List ℕ) 
   is_full t = rw t
 
   abbrev Loads : Type 0
-  Loads = loads ≡ on_loaded o.ans (λ u. loaded_of (loaded_is.Rows u) (linked u.records o.tables)) (λ e. loaded_of (loaded_is.Refused e) (words_of m (tables_of nothing)))
+  Loads =
+      loads
+      ≡ on_answer o.ans
+      (λ u. record { answer = ok (counts_of u); tables = linked u.records o.tables })
+      (λ e. record { answer = refused e; tables = words_of m (tables_of nothing) })
 
   pub load_is : Loads
   load_is = by_run (file_ran limit m f)
@@ -390,21 +409,21 @@ module _ (limit : Limits) (few : limit.most ≤ 1024) (m : Nine) (f : List ℕ) 
       by_run (Ran.full x d) = rw d (is_full (fits_false limit.most m p.it (omega (arith, few)) (reading_bounds f bytes (allowed_by limit)) x))
 
   -- of what the sections left
-  abbrev Left : FileOut → Type 0
-  Left z = elim z.ans [ loaded_is.Rows v ↦ Linkable v.records z.tables | loaded_is.Refused n ↦ Unit {0} ]
+  abbrev Left : Out Used → Type 0
+  Left z = elim z.ans [ ok v ↦ Linkable v.records z.tables | refused n ↦ Unit {0} ]
 
   -- so it is where a load goes on
-  pub load_linkable : (u : Used) (t : Words) → o ≡ loaded (loaded_is.Rows u) t → Linkable u.records t
+  pub load_linkable : (u : Used) (t : Words) → o ≡ out (ok u) t → Linkable u.records t
   load_linkable u t e = by_run (file_ran limit m f)
     where
       by_run : FileRan limit m f p o → Linkable u.records t
       by_run (Ran.went at q x d) =
           let c = p.it in
-          let same : loaded (loaded_is.Rows (used_in c)) (words_of m (unlinked c)) ≡ loaded (loaded_is.Rows u) t = sym d ∙ e in
+          let same : out (ok (used_in c)) (words_of m (unlinked c)) ≡ out (ok u) t = sym d ∙ e in
           subst Left same
           (record {
             held = rw (records_table limit m f at c x) (omega (arith, records_length c, x.records));
             few = omega (arith, records_length c, x.limited, few);
           })
-      by_run (Ran.stop k q x d) = absurd (rows_refused (ap (λ (z : FileOut). z.ans) (sym e) ∙ d))
-      by_run (Ran.full x d) = absurd (rows_refused (ap (λ (z : FileOut). z.ans) (sym e) ∙ d))
+      by_run (Ran.stop k q x d) = absurd (rows_refused (ap (λ (z : Out Used). z.ans) (sym e) ∙ d))
+      by_run (Ran.full x d) = absurd (rows_refused (ap (λ (z : Out Used). z.ans) (sym e) ∙ d))

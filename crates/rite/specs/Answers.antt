@@ -1,14 +1,13 @@
 -- What a load answers, case by case, the lengths of nine tables, and what a caller allows.
 -- Assumes nothing.
-use Rattle.std.specs.Prelude.{length, ℕ, List}
-use Rattle.format.specs.Bytes.{Answer, ok, refused}
+use Rattle.std.specs.Prelude.{length, ℕ, List, Result}
 use Rattle.format.specs.Allowance.{Allowance, allowance}
 use Rattle.format.specs.Load as format
 use Rattle.irep.specs.declared.Limits.{Limits}
 use Rattle.rite.specs.declared.Allowance.{Allowance as Given}
 use Rattle.sections.specs.declared.Used.{Used}
-use Rattle.file.specs.declared.Loaded.{Loaded}
-use Rattle.file.specs.declared.Loaded.TheVariants as loaded
+use Rattle.refusal.specs.declared.Refusal.{Refusal}
+use Rattle.refusal.specs.Number.{answer_as}
 pub use Rattle.tables.specs.Tables.{words, Zeros}
 
 -- their lengths
@@ -19,8 +18,7 @@ sizes t =
       handlers = length t.handlers;
       pool = length t.pool;
       symbols = length t.symbols;
-      strings = length
-          t.strings;
+      strings = length t.strings;
       names = length t.names;
       file_names = length t.file_names;
       files = length t.files;
@@ -36,13 +34,9 @@ nine_of u =
 abbrev pub counts_of : Used → format.Counts
 counts_of u = record { rows = nine_of u; visits = u.visits }
 
--- the counts, or the refusal's number
-abbrev pub answer_of : Loaded → Answer format.Counts
-answer_of (loaded.Rows u) = ok (counts_of u)
-answer_of (loaded.Refused e) = refused e
-
-abbrev pub loaded_of : Loaded → format.Words → format.Loaded
-loaded_of r t = record { answer = answer_of r; tables = t }
+-- the counts, or the refusal's number, with the tables
+abbrev pub loaded_of : Result Used Refusal → format.Words → format.Loaded
+loaded_of r t = record { answer = answer_as counts_of r; tables = t }
 
 -- the allowance that a caller gives, and that of the inner loader's limits
 abbrev pub allowance_of : Given → Allowance

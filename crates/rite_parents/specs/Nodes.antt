@@ -5,10 +5,6 @@ use Rattle.format.specs.Rows.{record_width}
 use Rattle.format.specs.Tree.{Node}
 use Rattle.format.specs.Lookup.{record_word}
 
--- so many open records have small tables
-abbrev pub few : ℕ
-few = 64
-
 -- the rlen of row i
 abbrev pub rlen_in : List ℕ → ℕ → ℕ
 rlen_in t i = record_word t i 3

@@ -70,6 +70,11 @@ module _ {S T : Type 0} (step : S → Run S T) (kids : S → ℕ) (spent : S →
       let k : count - rec s ≡ suc (count - (rec s + 1)) = omega arith in
       rw (k, q, add-zero, ← e) (bind_same o _ _ (λ x ex. rw (next s x (sym e ∙ ex))))
 
+  -- a record's own step is made, and went on with s': what is left of its visit is the visits of its children
+  pub walk_began : (s s' : S) → rec s < count → spent s ≡ false → go s' ≡ step s
+      → (rec s' ≡ rec s + 1) × (walk step kids spent (count - rec s) 1 s ≡ walk step kids spent (count - rec s') (kids s) s')
+  walk_began s s' h q e = (next s s' (sym e), walk_one s (go s') h q e)
+
   -- visits past the last record
   pub walk_past : (p : ℕ) (s : S) → count ≤ rec s → walk step kids spent (count - rec s) p s ≡ go s
   unfolding walk

@@ -3,20 +3,18 @@
 use Rattle.std.specs.Prelude.{ℕ, zero, suc, ◌+◌, ◌*◌, ◌/◌, min, cond, List, ◌++◌, ltb, eqb, length, take, drop}
 use Rattle.format.specs.Bytes.{Answer, ok, refused, Step}
 use Rattle.rows.specs.declared.Rows.{Rows}
-use Rattle.rows.specs.declared.Rows.TheVariants.{Next, Refused}
 
 -- an answer, and the table as it is then
 pub record Out : Type 0 where
-  pub ans : Rows
+  pub ans : Answer Rows
   pub tab : List ℕ
 
-abbrev pub out : Rows → List ℕ → Out
+abbrev pub out : Answer Rows → List ℕ → Out
 out a t = record { ans = a; tab = t }
 
--- the place after and the rows used, or the refusal's number
-abbrev pub on_rows : {A : Type 0} → Rows → (ℕ → ℕ → A) → (ℕ → A) → A
-on_rows (Next at u) k e = k at u
-on_rows (Refused n) k e = e n
+-- reading goes on at this place, with so many rows used
+abbrev pub next : ℕ → ℕ → Answer Rows
+next at u = ok (record { at = at; used = u })
 
 -- t with its words from i on replaced by ws
 abbrev pub splice : List ℕ → ℕ → List ℕ → List ℕ
@@ -33,19 +31,19 @@ first_of row n = cond (eqb n 0) 0 row
 -- row u of t becomes ws, and reading goes on at `at`; 14 where t has no row u of that width
 abbrev pub put_of : ℕ → ℕ → List ℕ → List ℕ → Out
 put_of at u t ws =
-    cond (ltb u (row_count (length t) (length ws))) (out (Next at (u + 1)) (splice t (u * length ws) ws)) (out (Refused 14) t)
+    cond (ltb u (row_count (length t) (length ws))) (out (next at (u + 1)) (splice t (u * length ws) ws)) (out (refused 14) t)
 
 -- what was read is put into row u; a refusal leaves the table as it is
 abbrev pub put_step : {R : Type 0} → (R → List ℕ) → Answer (Step R) → ℕ → List ℕ → Out
 put_step words (ok s) u t = put_of s.next u t (words s.it)
-put_step words (refused e) u t = out (Refused e) t
+put_step words (refused e) u t = out (refused e) t
 
 -- a reader's answer, then what follows from there; a refusal ends it
-abbrev pub after : Rows → List ℕ → (ℕ → ℕ → List ℕ → Out) → Out
-after (Next at u) t k = k at u t
-after (Refused e) t k = out (Refused e) t
+abbrev pub after : Answer Rows → List ℕ → (ℕ → ℕ → List ℕ → Out) → Out
+after (ok r) t k = k r.at r.used t
+after (refused e) t k = out (refused e) t
 
 -- n rows in turn
 abbrev pub times : (ℕ → ℕ → List ℕ → Out) → ℕ → ℕ → ℕ → List ℕ → Out
-times row zero at u t = out (Next at u) t
+times row zero at u t = out (next at u) t
 times row (suc n) at u t = after (row at u t).ans (row at u t).tab (times row n)

@@ -8,7 +8,6 @@ use mathlib.Core.List.{List, ◌∷◌}
 use lib.Dec.{T}
 use lib.ListN.{length, get_or, set, drop, length-set, length-take, length-drop}
 use lib.Seq.{set-get_or}
-use Rattle.format.specs.Bytes.{ok}
 use Rattle.format.specs.Line.{line_at}
 use Rattle.format.specs.Lookup.{record_word}
 use Rattle.format.specs.Tree.{child_of}
@@ -35,7 +34,7 @@ held_none p t d ch z h =
     let q = frames_none t d z in
     record { table = rw q (rw q at h.table); deep = rw q; stack = rw q tt }
 
-pub standing_none : (p : Pattern) (t : List ℕ) (d : ℕ) → d ≡ 0 → ok finished ≡ ok (standing p (frames_of t d))
+pub standing_none : (p : Pattern) (t : List ℕ) (d : ℕ) → d ≡ 0 → finished ≡ standing p (frames_of t d)
 unfolding standing
 standing_none p t d z = rw (frames_none t d z)
 
@@ -84,7 +83,7 @@ module _ {f recs hs ls t : List ℕ} {n d : ℕ}
     top_stands = record { starts = starts; paired = good_record.paired o starts; reads = good_record.reads o starts; goes = good_record.go o starts }
 
     pub standing_top : {a : ℕ} {x : Option ℕ} → a ≡ r → x ≡ line_at (entries ls (record_word recs r 17) (record_word recs r 18)) o
-        → ok (stands (frame a o) x d) ≡ ok (standing p (frames_of t d))
+        → stands (frame a o) x d ≡ standing p (frames_of t d)
     unfolding standing
     standing_top ea e =
         let q : length (frame r o ∷ under) ≡ d = ap length (sym frames_are) ∙ sym held.deep in

@@ -50,9 +50,6 @@ walking_start {f} {recs} {hs} {ls} {n} bs {t} R room e =
     }
 
 module _ {p : Pattern} {bs t : List ℕ} {d i : ℕ} (w : Walking p bs t d i) where
-  pub walking_bad : choices_from format.kind (drop i bs) ≡ refused 21 → ran_bytes p bs ≡ refused 21
-  walking_bad e = w.so ∙ ap (after p (frames_of t d)) e
-
   pub walking_step : {u : List ℕ} {k j : ℕ} {c : Choice} → NextIs bs i c j → Held p u k (one_step p (frames_of t d) (choice_of c)) → Walking p bs u k j
   walking_step {u} {k} {j} {c} r h =
       let q : frames_of u k ≡ one_step p (frames_of t d) (choice_of c) = held_frames p u k (one_step p (frames_of t d) (choice_of c)) h in
@@ -81,17 +78,14 @@ follow_told p bs n = go (choices bs)
     go (refused e) = refl
 
 module _ (p : Pattern) (bs : List ℕ) (n : ℕ) where
-  pub out_bad : {t : List ℕ} (k : ℕ) → ran_bytes p bs ≡ refused 21 → t ≡ replicate k 0 → k ≡ n → out (refused 21) t ≡ follow_out p bs n
+  pub out_bad : {t : List ℕ} {m : ℕ} (k : ℕ) → ran_bytes p bs ≡ refused m → t ≡ replicate k 0 → k ≡ n → out (refused m) t ≡ follow_out p bs n
   unfolding told
-  out_bad {t} k e z q =
+  out_bad {t} {m} k e z q =
       let y : t ≡ frame_table n [] = z ∙ ap (λ (i : ℕ). replicate i 0) q ∙ zeros_none n in
-      ap (out (refused 21)) y ∙ ap (told p n) (sym e) ∙ follow_told p bs n
+      ap (out (refused m)) y ∙ ap (told p n) (sym e) ∙ follow_told p bs n
 
-  pub out_ran : {d : ℕ} {t : List ℕ} {a : Answer Standing} → Ran p bs t d → length t ≡ n → a ≡ ok (standing p (frames_of t d)) → out a t ≡ follow_out p bs n
+  pub out_ran : {d : ℕ} {t : List ℕ} {s : Standing} → Ran p bs t d → length t ≡ n → s ≡ standing p (frames_of t d) → out (ok s) t ≡ follow_out p bs n
   unfolding told
-  out_ran {d} {t} {a} r l q =
+  out_ran {d} {t} r l q =
       let k : t ≡ frame_table n (frames_of t d) = rw l at r.held.table in
-      ap (λ (x : Answer Standing). out x t) q ∙ ap (out (ok (standing p (frames_of t d)))) k ∙ ap (told p n) (sym r.so) ∙ follow_told p bs n
-
-pub same_zeros : {t : List ℕ} (m n : ℕ) → t ≡ replicate m 0 → m ≡ n → t ≡ replicate n 0
-same_zeros m n e q = rw q at e
+      ap (λ (x : Standing). out (ok x) t) q ∙ ap (out (ok (standing p (frames_of t d)))) k ∙ ap (told p n) (sym r.so) ∙ follow_told p bs n

@@ -1,12 +1,12 @@
 -- Follow over a pattern that passes: its answer and the frame table, and what the loop over the choices answers.
 -- Assumes nothing.
-use Rattle.std.specs.Prelude.{ℕ, ◌≡◌, List, []}
+use Rattle.std.specs.Prelude.{ℕ, ◌≡◌, List, [], Result, Ok, Err}
 use Rattle.format.specs.Bytes.{Answer, ok, refused, bind, on_answer}
 use Rattle.format.specs.Pattern.{Pattern}
 use Rattle.format.specs.Run.{Choice, Frame, Standing, standing, start, run, run_from, choices, frame_table}
+use Rattle.refusal.specs.Number.{number}
+use Rattle.refusal.specs.declared.Refusal.{Refusal}
 use Rattle.run.specs.Frames.{frames_of, Held}
-use Rattle.run.specs.declared.Walked.{Walked}
-use Rattle.run.specs.declared.Walked.TheVariants.{Depth, Bad}
 
 -- follow's answer, and the words of the frame table afterwards
 pub record Out : Type 0 where
@@ -33,6 +33,7 @@ pub record Ran (p : Pattern) (bs t : List ℕ) (d : ℕ) : Type 0 where
   pub held : Held p t d (frames_of t d)
   pub so : ran_bytes p bs ≡ ok (frames_of t d)
 
-abbrev pub Walk : Pattern → List ℕ → List ℕ → Walked → Type 0
-Walk p bs t (Depth d) = Ran p bs t d
-Walk p bs t Bad = ran_bytes p bs ≡ refused 21
+-- what the loop over the choice bytes answers
+abbrev pub Walk : Pattern → List ℕ → List ℕ → Result ℕ Refusal → Type 0
+Walk p bs t (Ok d) = Ran p bs t d
+Walk p bs t (Err e) = (ran_bytes p bs ≡ refused 21) × (number e ≡ 21)

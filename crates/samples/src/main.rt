@@ -1,82 +1,34 @@
 // Runs paper 01's samples of instructions, packed numbers, line maps and fields that are not proved, and prints what is answered.
 #![tactic(auto)]
 
-use binfmt::{Field16, Field32};
-use insn::{FetchAnswer, Fetched};
-use line::{Line, LineAt, Pos};
+use binfmt::{u16_at, u32_at};
+use insn::Fetched;
+use line::{Line, Pos};
 use line_packed::Packed;
-use number::{Int32, Int64};
-use number_float::Float64;
+use number::{i32_at, i64_at};
+use number_float::f64_at;
+use refusal::Refusal;
+use std::fmt::Display;
 use std::io;
 
-fn number(rt: &impl Print, n: u32) -> io::Result<()> {
-    print!(rt; " {n}")
-}
-
-fn refused(rt: &impl Print, n: u8) -> io::Result<()> {
-    print!(rt; " refused")?;
-    number(rt, n as u32)
-}
-
-fn end_line(rt: &impl Print) -> io::Result<()> {
-    print!(rt; "\n")
-}
-
-fn two(rt: &impl Print, a: u32, b: u32) -> io::Result<()> {
-    number(rt, a)?;
-    number(rt, b)
-}
-
-fn operands(rt: &impl Print, f: Fetched) -> io::Result<()> {
-    match f {
-        Fetched::Z => print!(rt; " Z"),
-        Fetched::B(a) => {
-            print!(rt; " B")?;
-            number(rt, a as u32)
-        }
-        Fetched::BB(a, b) => {
-            print!(rt; " BB")?;
-            two(rt, a as u32, b as u32)
-        }
-        Fetched::BBB(a, b, c) => {
-            print!(rt; " BBB")?;
-            two(rt, a as u32, b as u32)?;
-            number(rt, c as u32)
-        }
-        Fetched::BS(a, s) => {
-            print!(rt; " BS")?;
-            two(rt, a as u32, s as u32)
-        }
-        Fetched::BSS(a, s, t) => {
-            print!(rt; " BSS")?;
-            two(rt, a as u32, s as u32)?;
-            number(rt, t as u32)
-        }
-        Fetched::S(s) => {
-            print!(rt; " S")?;
-            number(rt, s as u32)
-        }
-        Fetched::W(w) => {
-            print!(rt; " W")?;
-            number(rt, w)
-        }
-    }
-}
-
 fn fetch(rt: &impl Print, bin: &[u8]) -> io::Result<()> {
-    print!(rt; "fetch")?;
     match insn::fetch(bin) {
-        FetchAnswer::Ok(f) => operands(rt, f)?,
-        FetchAnswer::Refused(n) => refused(rt, n)?,
+        Ok(Fetched::Z) => println!(rt; "fetch Z"),
+        Ok(Fetched::B(a)) => println!(rt; "fetch B {a}"),
+        Ok(Fetched::BB(a, b)) => println!(rt; "fetch BB {a} {b}"),
+        Ok(Fetched::BBB(a, b, c)) => println!(rt; "fetch BBB {a} {b} {c}"),
+        Ok(Fetched::BS(a, s)) => println!(rt; "fetch BS {a} {s}"),
+        Ok(Fetched::BSS(a, s, t)) => println!(rt; "fetch BSS {a} {s} {t}"),
+        Ok(Fetched::S(s)) => println!(rt; "fetch S {s}"),
+        Ok(Fetched::W(w)) => println!(rt; "fetch W {w}"),
+        Err(e) => println!(rt; "fetch refused {}", u32::from(e)),
     }
-    end_line(rt)
 }
 
 // Every byte as an opcode, with five bytes behind it.
 fn every_opcode(rt: &impl Print) -> io::Result<()> {
     for b in 0u8..=255 {
-        let bin = [b, 1, 2, 3, 4, 5];
-        fetch(rt, &bin)?;
+        fetch(rt, &[b, 1, 2, 3, 4, 5])?;
     }
     Ok(())
 }
@@ -91,15 +43,10 @@ fn cut_instructions(rt: &impl Print) -> io::Result<()> {
 }
 
 fn packed(rt: &impl Print, head: &[u8]) -> io::Result<()> {
-    print!(rt; "packed")?;
     match line_packed::decode_packed_int(head, 0) {
-        Packed::Value { value, next } => {
-            number(rt, value)?;
-            number(rt, (next % 8) as u32)?;
-        }
-        Packed::Refused(n) => refused(rt, n)?,
+        Ok(Packed { value, next }) => println!(rt; "packed {value} {}", next % 8),
+        Err(e) => println!(rt; "packed refused {}", u32::from(e)),
     }
-    end_line(rt)
 }
 
 fn packed_numbers(rt: &impl Print) -> io::Result<()> {
@@ -115,15 +62,10 @@ fn packed_numbers(rt: &impl Print) -> io::Result<()> {
 }
 
 fn line_of(rt: &impl Print, map: &[u32], pos: u32) -> io::Result<()> {
-    print!(rt; "line")?;
     match line::line_at(map, Pos(pos)) {
-        LineAt::At(l) => {
-            let n = l.0;
-            number(rt, n)?;
-        }
-        LineAt::Nothing => print!(rt; " none")?,
+        Some(Line(n)) => println!(rt; "line {n}"),
+        None => println!(rt; "line none"),
     }
-    end_line(rt)
 }
 
 fn lines(rt: &impl Print) -> io::Result<()> {
@@ -140,79 +82,56 @@ fn lines(rt: &impl Print) -> io::Result<()> {
     line_of(rt, &[5, 1, 0, 2, 9, 3], 4)
 }
 
-fn field16(rt: &impl Print, head: &[u8], cur: usize) -> io::Result<()> {
-    print!(rt; "field")?;
-    match binfmt::u16_at(head, cur) {
-        Field16::Value(v) => number(rt, v as u32)?,
-        Field16::Refused(n) => refused(rt, n)?,
-    }
-    end_line(rt)
-}
-
-fn field32(rt: &impl Print, head: &[u8], cur: usize) -> io::Result<()> {
-    print!(rt; "field")?;
-    match binfmt::u32_at(head, cur) {
-        Field32::Value(v) => number(rt, v)?,
-        Field32::Refused(n) => refused(rt, n)?,
-    }
-    end_line(rt)
-}
-
-fn truth(rt: &impl Print, t: bool) -> io::Result<()> {
-    if t {
-        print!(rt; " yes")
-    } else {
-        print!(rt; " no")
+fn field<T: Display + Drop>(rt: &impl Print, answer: Result<T, Refusal>) -> io::Result<()> {
+    match answer {
+        Ok(v) => println!(rt; "field {v}"),
+        Err(e) => println!(rt; "field refused {}", u32::from(e)),
     }
 }
 
-fn int32_is(rt: &impl Print, head: &[u8], n: i32) -> io::Result<()> {
-    print!(rt; "int32")?;
-    match number::i32_at(head, 0) {
-        Int32::Value(v) => truth(rt, v == n)?,
-        Int32::Refused(e) => refused(rt, e)?,
+// Whether a field that was read is the number that it should be.
+fn is<T: PartialEq + Drop>(
+    rt: &impl Print,
+    name: &str,
+    answer: Result<T, Refusal>,
+    n: T,
+) -> io::Result<()> {
+    match answer {
+        Ok(v) => println!(rt; "{name} {}", if v == n { "yes" } else { "no" }),
+        Err(e) => println!(rt; "{name} refused {}", u32::from(e)),
     }
-    end_line(rt)
-}
-
-fn int64_is(rt: &impl Print, head: &[u8], n: i64) -> io::Result<()> {
-    print!(rt; "int64")?;
-    match number::i64_at(head, 0) {
-        Int64::Value(v) => truth(rt, v == n)?,
-        Int64::Refused(e) => refused(rt, e)?,
-    }
-    end_line(rt)
-}
-
-fn float_is(rt: &impl Print, head: &[u8], x: f64) -> io::Result<()> {
-    print!(rt; "float64")?;
-    match number_float::f64_at(head, 0) {
-        Float64::Value(v) => truth(rt, v == x)?,
-        Float64::Refused(e) => refused(rt, e)?,
-    }
-    end_line(rt)
 }
 
 fn fields(rt: &impl Print) -> io::Result<()> {
     let b = [1u8, 2, 3, 4, 5];
-    field16(rt, &b, 0)?;
-    field16(rt, &b, 3)?;
-    field16(rt, &b, 4)?;
-    field16(rt, &b, 18446744073709551615)?;
-    field32(rt, &b, 1)?;
-    field32(rt, &b, 2)?;
-    int32_is(rt, &[0, 0, 1, 2], 258)?;
-    int32_is(rt, &[255, 255, 255, 254], -2)?;
-    int32_is(rt, &[128, 0, 0, 0], -2147483648)?;
-    int32_is(rt, &[0, 0, 1], 0)?;
-    int64_is(rt, &[0, 0, 0, 0, 0, 0, 1, 2], 258)?;
-    int64_is(rt, &[255, 255, 255, 255, 255, 255, 255, 254], -2)?;
-    int64_is(rt, &[2, 1, 0, 0, 0, 0, 0, 0], 258)?;
-    int64_is(rt, &[0, 0, 0, 0, 0, 0, 1], 0)?;
-    float_is(rt, &[0, 0, 0, 0, 0, 0, 248, 63], 1.5)?;
-    float_is(rt, &[0, 0, 0, 0, 0, 0, 248, 191], -1.5)?;
-    float_is(rt, &[1, 0, 0, 0, 0, 0, 248, 127], 1.5)?;
-    float_is(rt, &[0, 0], 1.5)
+    field(rt, u16_at(&b, 0))?;
+    field(rt, u16_at(&b, 3))?;
+    field(rt, u16_at(&b, 4))?;
+    field(rt, u16_at(&b, 18446744073709551615))?;
+    field(rt, u32_at(&b, 1))?;
+    field(rt, u32_at(&b, 2))?;
+    is(rt, "int32", i32_at(&[0, 0, 1, 2], 0), 258)?;
+    is(rt, "int32", i32_at(&[255, 255, 255, 254], 0), -2)?;
+    is(rt, "int32", i32_at(&[128, 0, 0, 0], 0), -2147483648)?;
+    is(rt, "int32", i32_at(&[0, 0, 1], 0), 0)?;
+    is(rt, "int64", i64_at(&[0, 0, 0, 0, 0, 0, 1, 2], 0), 258)?;
+    is(
+        rt,
+        "int64",
+        i64_at(&[255, 255, 255, 255, 255, 255, 255, 254], 0),
+        -2,
+    )?;
+    is(rt, "int64", i64_at(&[2, 1, 0, 0, 0, 0, 0, 0], 0), 258)?;
+    is(rt, "int64", i64_at(&[0, 0, 0, 0, 0, 0, 1], 0), 0)?;
+    is(rt, "float64", f64_at(&[0, 0, 0, 0, 0, 0, 248, 63], 0), 1.5)?;
+    is(
+        rt,
+        "float64",
+        f64_at(&[0, 0, 0, 0, 0, 0, 248, 191], 0),
+        -1.5,
+    )?;
+    is(rt, "float64", f64_at(&[1, 0, 0, 0, 0, 0, 248, 127], 0), 1.5)?;
+    is(rt, "float64", f64_at(&[0, 0], 0), 1.5)
 }
 
 fn main(rt: HostRuntime) -> io::Result<()> {

@@ -15,10 +15,9 @@ use Rattle.format.specs.Exam.{first_at, at16, at1718, exam16, exam32, exam1718}
 use Rattle.format.proofs.Answers.{first_zero}
 use Rattle.runs.proofs.Tests.{first_at_zero}
 use Rattle.flags.specs.Flags.{Entire, bare, flag_at, judged, Flagged, lands_from}
-use Rattle.flags.proofs.Tested.{entire_whole}
+use Rattle.flags.proofs.Tests.{entire_whole}
 use Rattle.flags.proofs.Goes.{flags_mark, flag_wide, judged_is}
 use Rattle.scan.specs.Scan.{Marks, Coded}
-use Rattle.scan.proofs.First.{first_some}
 use Rattle.scan.proofs.Places.{Place, place_start, place_zero, place_more, place_first, place_next, first_at_first, first_at_next, first_at_past}
 
 passed_16 : (c : List ℕ) → exam16 c ≡ 0 → (o : ℕ) → T (begins c o) → at16 c o ≡ 0
@@ -125,20 +124,16 @@ module _ {l c flags : List ℕ} (f : Flagged l c flags) {i : ℕ} (h : i < lengt
       unfolding judged
       going_land z = let b = begun (omega arith) in going_pass h g b (answer_is b ∙ rw (q, ← j, z))
 
--- 16, 25 and 32, then 17 and 18
-module _ {l q c flags : List ℕ} {a : ℕ} (m : Marks l q c flags a) where
-  pub coded_marks : (a ≡ 0 → ⊥) → Coded l q c flags a
-  coded_marks z = record { answers = rw (← m.answers) (first_some a (exam1718 (bare l c)) z); marked = λ e. absurd (z e) }
+-- 16, 25 and 32 are not met, then 17 and 18
+module _ {l q c flags : List ℕ} (m : Marks l q c flags 0) where
+  none_met : first (exam16 c) (exam32 q c) ≡ 0
+  none_met = sym m.answers
 
-  module _ (z : a ≡ 0) where
-    none_met : first (exam16 c) (exam32 q c) ≡ 0
-    none_met = sym m.answers ∙ z
+  pub passes : exam16 c ≡ 0
+  passes = (first_zero (exam16 c) (exam32 q c) none_met).0
 
-    pub passes : exam16 c ≡ 0
-    passes = (first_zero (exam16 c) (exam32 q c) none_met).0
+  pub coded_stop : {n : ℕ} → exam1718 (bare l c) ≡ suc n → Coded l q c flags (suc n)
+  coded_stop e = record { answers = rw (none_met, e); marked = λ y. absurd (omega arith) }
 
-    pub coded_stop : {n : ℕ} → exam1718 (bare l c) ≡ suc n → Coded l q c flags (suc n)
-    coded_stop e = record { answers = rw (none_met, e); marked = λ y. absurd (omega arith) }
-
-    pub coded_end : exam1718 (bare l c) ≡ 0 → Coded l q c flags 0
-    coded_end e = record { answers = rw (none_met, e); marked = λ y. flags_mark (m.flagged z) }
+  pub coded_end : exam1718 (bare l c) ≡ 0 → Coded l q c flags 0
+  coded_end e = record { answers = rw (none_met, e); marked = λ y. flags_mark (m.flagged refl) }

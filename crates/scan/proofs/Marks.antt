@@ -18,36 +18,18 @@ use Rattle.format.specs.Permitted.{permitted_at}
 use Rattle.format.specs.Exam.{first_at, at16, at32, exam16, exam32}
 use Rattle.runs.proofs.Loops.{first_at_turn, first_at_end, reach_turn, reach_over}
 use Rattle.flags.specs.Flags.{Entire, told_at}
-use Rattle.flags.proofs.Tested.{Passed, entire_whole}
-use Rattle.examine_list.specs.Full.{said}
-use Rattle.examine_list.proofs.Full.{said_one, said_is}
+use Rattle.flags.proofs.Tests.{Passed, entire_whole}
 use Rattle.scan.specs.Scan.{Cleared, Marks}
 use Rattle.scan.proofs.First.{first_some, first_assoc, first_last, refuse_both}
 
--- the loop that clears, at the flag i
-module _ {before : List ℕ} where
-  pub cleared_start : Cleared before 0 before
-  cleared_start = record { long = refl; none = λ o h. absurd (omega arith) }
-
-  pub cleared_turn : {flags : List ℕ} {i : ℕ} → i < length before → Cleared before i flags → Cleared before (i + 1) (set flags i 0)
-  cleared_turn {flags} {i} h g = record { long = simp length-set g.long; none = λ o l. go o (eq-or-lt_of_le {n = o} {m = i} (omega arith)) }
-    where
-      go : (o : ℕ) → (o ≡ i) ⊎ (o < i) → get_or (set flags i 0) o 0 ≡ 0
-      go o (inl q) = rw (q, get_or-set_same flags i 0 0 (omega (arith, g.long)))
-      go o (inr q) = rw (get_or-set_other flags i o 0 0 (λ z. omega arith)) (g.none o q)
-
-  pub cleared_end : {flags : List ℕ} {n i : ℕ} → n ≤ i → Cleared before i flags → Cleared before n flags
-  cleared_end h g = record { long = g.long; none = λ o l. g.none o (omega arith) }
-
--- the loop that tests, at the instruction i; all is 1 while all before it are permitted
-pub record Marking (l q c flags : List ℕ) (all i : ℕ) : Type 0 where
+-- the loop that tests, at the instruction i; all: the ones before it are permitted
+pub record Marking (l q c flags : List ℕ) (all : Bool) (i : ℕ) : Type 0 where
   pub room : length c ≤ length flags
   pub ahead : (o : ℕ) → i ≤ o → begins c o ≡ reach (drop i c) 0 (o - i)
   pub upto : (o : ℕ) → o < i → get_or flags o 0 ≡ told_at l c o
   pub clear : (o : ℕ) → i ≤ o → o < length c → get_or flags o 0 ≡ 0
   pub so : exam16 c ≡ first_at (at16 c) (drop i c) 0 i
-  pub told : exam32 q c ≡ first (refuse 32 (ltb 0 all)) (first_at (at32 q c) (drop i c) 0 i)
-  pub one : all ≤ 1
+  pub told : exam32 q c ≡ first (refuse 32 all) (first_at (at32 q c) (drop i c) 0 i)
 
 -- a record with no byte
 pub marks_empty : (l q c flags : List ℕ) → length c ≡ 0 → Marks l q c flags 16
@@ -55,7 +37,7 @@ unfolding exam16
 marks_empty l q c flags e = record { answers = rw e; flagged = λ z. absurd (omega arith) }
 
 module _ {l q c : List ℕ} where
-  pub marking_start : {before flags : List ℕ} → (length c ≡ 0 → ⊥) → length c ≤ length before → Cleared before (length c) flags → Marking l q c flags 1 0
+  pub marking_start : {before flags : List ℕ} → (length c ≡ 0 → ⊥) → length c ≤ length before → Cleared before (length c) flags → Marking l q c flags true 0
   unfolding exam16 exam32
   marking_start z h g = record {
     room = omega (arith, g.long);
@@ -64,10 +46,9 @@ module _ {l q c : List ℕ} where
     clear = λ o k q. g.none o q;
     so = rw (lt-ltb 0 (length c) (omega arith));
     told = refl;
-    one = omega arith;
   }
 
-  module _ {flags : List ℕ} {all i : ℕ} (h : i < length c) (m : Marking l q c flags all i) where
+  module _ {flags : List ℕ} {all : Bool} {i : ℕ} (h : i < length c) (m : Marking l q c flags all i) where
     turned : exam16 c ≡ first (at16 c i) (first_at (at16 c) (drop (next c i) c) 0 (next c i))
     turned = m.so ∙ first_at_turn (at16 c) c i h
 
@@ -102,11 +83,11 @@ module _ {l q c : List ℕ} where
           go false z = at (eq-or-lt_of_le {n = i} {m = o} (ltb-false o i z))
 
       -- a: the answer with it
-      module _ {a : ℕ} (s : a ≡ said (ltb 0 all && permitted_at q c i)) where
-        told_on : exam32 q c ≡ first (refuse 32 (ltb 0 a)) (first_at (at32 q c) (drop (next c i) c) 0 (next c i))
+      module _ {a : Bool} (s : a ≡ (all && permitted_at q c i)) where
+        told_on : exam32 q c ≡ first (refuse 32 a) (first_at (at32 q c) (drop (next c i) c) 0 (next c i))
         told_on =
-            m.told ∙ ap (first (refuse 32 (ltb 0 all))) (first_at_turn (at32 q c) c i h)
-            ∙ refuse_both 31 (ltb 0 all) (permitted_at q c i) _ ∙ rw (s, said_is)
+            m.told ∙ ap (first (refuse 32 all)) (first_at_turn (at32 q c) c i h)
+            ∙ refuse_both 31 all (permitted_at q c i) _ ∙ rw s
 
         pub marking_turn : Marking l q c (set flags i f) a (i + n)
         marking_turn = rw p.next_is record {
@@ -116,22 +97,21 @@ module _ {l q c : List ℕ} where
           clear = λ o g z. rw (get_or-set_other flags i o f 0 (λ y. omega (arith, p.next_is))) (m.clear o (omega (arith, p.next_is)) z);
           so = turned ∙ rw p.none;
           told = told_on;
-          one = rw s (said_one (ltb 0 all && permitted_at q c i));
         }
 
   -- at the end
-  module _ {flags : List ℕ} {all i : ℕ} (h : length c ≤ i) (m : Marking l q c flags all i) where
+  module _ {flags : List ℕ} {all : Bool} {i : ℕ} (h : length c ≤ i) (m : Marking l q c flags all i) where
     none_16 : exam16 c ≡ 0
     none_16 = m.so ∙ first_at_end (at16 c) c i h
 
-    by_all : exam32 q c ≡ refuse 32 (ltb 0 all)
-    by_all = m.told ∙ ap (first (refuse 32 (ltb 0 all))) (first_at_end (at32 q c) c i h) ∙ first_last (refuse 32 (ltb 0 all))
+    by_all : exam32 q c ≡ refuse 32 all
+    by_all = m.told ∙ ap (first (refuse 32 all)) (first_at_end (at32 q c) c i h) ∙ first_last (refuse 32 all)
 
-    pub marking_32 : all ≡ 0 → Marks l q c flags 32
+    pub marking_32 : all ≡ false → Marks l q c flags 32
     marking_32 e = record { answers = rw (none_16, by_all, e); flagged = λ z. absurd (omega arith) }
 
-    pub marking_end : (all ≡ 0 → ⊥) → Marks l q c flags 0
+    pub marking_end : all ≡ true → Marks l q c flags 0
     marking_end z = record {
-      answers = rw (none_16, by_all, lt-ltb 0 all (omega arith));
-      flagged = λ z. record { room = m.room; told = λ o g. m.upto o (omega arith) };
+      answers = rw (none_16, by_all, z);
+      flagged = λ y. record { room = m.room; told = λ o g. m.upto o (omega arith) };
     }

@@ -1,7 +1,7 @@
 -- Stored answers: numbers of four bytes, high byte first, and how far a replay has come with them. Places stop at one that is past all that is
 -- stored, and counts at the largest number of 32 bits.
 -- Assumes nothing.
-use Rattle.std.specs.Prelude.{ℕ, ◌+◌, ◌*◌, Bool, true, false, cond, ◌&&◌, List, eqb, ltb}
+use Rattle.std.specs.Prelude.{ℕ, ◌+◌, ◌-◌, ◌*◌, Bool, true, false, cond, ◌&&◌, List, eqb, ltb, length, take, drop}
 use Rattle.format.specs.Bytes.{reads, u32_at, on_answer}
 use Rattle.stored.specs.declared.State.{State}
 
@@ -18,6 +18,13 @@ word f i = on_answer (reads f i 4 (u32_at f i)) (λ n. n) (λ e. 0)
 
 abbrev pub least : ℕ → ℕ → ℕ
 least a b = cond (ltb a b) a b
+
+-- n bytes at a place, as far as they are stored
+abbrev pub part : List ℕ → ℕ → ℕ → List ℕ
+part f i n =
+    let end = least (ahead i n) (length f) in
+    let start = least i end in
+    take (end - start) (drop start f)
 
 abbrev pub one_more : ℕ → ℕ
 one_more n = cond (ltb n 4294967295) (n + 1) n

@@ -2,13 +2,17 @@
 // The form stands at the top of host/compare/src/store.rs.
 #![tactic(auto)]
 
-ghost use Rattle.std.specs.Prelude.{◌≡◌, ◌≤◌};
+ghost use Rattle.std.specs.Prelude.{◌≡◌, ◌≤◌, IfOk};
 ghost use Rattle.stored.specs.Stored as stored;
 
-use binfmt::Field32;
+use std::io;
+
+// A place past everything that is stored.
+const FAR: usize = 16777216;
 
 // How far a replay has come: the place of the next item, the bytes and the words that stand last, and the answers of this group.
-#[derive(Clone, Copy)]
+// `going` is a field beside the values, not an Option around them: `begun` and `ended` are public and promise it so, and `ended` keeps the values.
+#[derive(Clone, Copy, Default)]
 pub struct State {
     pub going: bool,
     pub at: usize,
@@ -24,59 +28,49 @@ pub struct State {
 pub fn ahead(at: usize, n: usize) -> usize
     ensures { result ≡ stored.ahead at n }
 {
-    if at < 16777216 {
-        if n < 16777216 {
-            return at + n;
-        }
-    }
-    16777216
+    if at < FAR && n < FAR { at + n } else { FAR }
 }
 
 // The number at a place, 0 past the end.
 pub fn word(all: &[u8], at: usize) -> u32
     ensures { result ≡ stored.word all.now at }
 {
-    match binfmt::u32_at(all, at) {
-        Field32::Value(v) => v,
-        Field32::Refused(n) => 0,
-    }
+    binfmt::u32_at(all, at).unwrap_or(0)
 }
 
 pub fn least(a: usize, b: usize) -> usize
     ensures { (result ≡ stored.least a b) × (result ≤ b) }
 {
-    if a < b {
-        return a;
-    }
-    b
+    a.min(b)
 }
 
 fn one_more(n: u32) -> u32
     ensures { result ≡ stored.one_more n }
 {
-    if n < 4294967295 {
-        return n + 1;
-    }
-    n
+    n.saturating_add(1)
+}
+
+// So many bytes at a place, as far as they are stored.
+pub fn part(all: &[u8], at: usize, bytes: usize) -> &[u8]
+    ensures { result.now ≡ stored.part all.now at bytes }
+{
+    let end = least(ahead(at, bytes), all.len());
+    let start = least(at, end);
+    &all[start..end]
 }
 
 // Whether five numbers are those stored at a place.
 pub fn five_agree(a: u32, b: u32, c: u32, d: u32, e: u32, all: &[u8], at: usize) -> bool
     ensures { result ≡ stored.five_agree a b c d e all.now at }
 {
-    if word(all, at) != a {
-        return false;
-    }
-    if word(all, ahead(at, 4)) != b {
-        return false;
-    }
-    if word(all, ahead(at, 8)) != c {
-        return false;
-    }
-    if word(all, ahead(at, 12)) != d {
-        return false;
-    }
-    word(all, ahead(at, 16)) == e
+    [a, b, c, d, e]
+        == [
+            word(all, at),
+            word(all, ahead(at, 4)),
+            word(all, ahead(at, 8)),
+            word(all, ahead(at, 12)),
+            word(all, ahead(at, 16)),
+        ]
 }
 
 // Nothing has come yet.
@@ -85,13 +79,7 @@ pub fn begun() -> State
 {
     State {
         going: true,
-        at: 0,
-        file: 0,
-        bytes: 0,
-        map: 0,
-        rows: 0,
-        answers: 0,
-        differences: 0,
+        ..State::default()
     }
 }
 
@@ -99,10 +87,7 @@ pub fn begun() -> State
 fn counted(n: u32, agrees: bool) -> u32
     ensures { result ≡ stored.counted n agrees }
 {
-    if agrees {
-        return n;
-    }
-    one_more(n)
+    if agrees { n } else { one_more(n) }
 }
 
 // Behind an answer of so many bytes.
@@ -112,12 +97,9 @@ pub fn answered(s: State, agrees: bool, bytes: usize) -> State
     State {
         going: true,
         at: ahead(s.at, bytes),
-        file: s.file,
-        bytes: s.bytes,
-        map: s.map,
-        rows: s.rows,
         answers: one_more(s.answers),
         differences: counted(s.differences, agrees),
+        ..s
     }
 }
 
@@ -132,10 +114,7 @@ pub fn at_file(all: &[u8], s: State) -> State
         at: ahead(file, bytes),
         file,
         bytes,
-        map: s.map,
-        rows: s.rows,
-        answers: s.answers,
-        differences: s.differences,
+        ..s
     }
 }
 
@@ -149,12 +128,9 @@ pub fn at_words(all: &[u8], s: State) -> State
     State {
         going: true,
         at: ahead(map, bytes),
-        file: s.file,
-        bytes: s.bytes,
         map,
         rows,
-        answers: s.answers,
-        differences: s.differences,
+        ..s
     }
 }
 
@@ -165,27 +141,25 @@ pub fn next_group(s: State, bytes: usize) -> State
     State {
         going: true,
         at: ahead(ahead(s.at, 8), bytes),
-        file: s.file,
-        bytes: s.bytes,
-        map: s.map,
-        rows: s.rows,
         answers: 0,
         differences: 0,
+        ..s
     }
+}
+
+// The end of a group: prints its name, answers and differences, and goes on behind it.
+pub fn group_item(rt: &impl Print, all: &[u8], s: State) -> io::Result<State>
+    ensures { IfOk result (λ t. t ≡ stored.next_group s (stored.word all.now (stored.ahead s.at 4))) }
+{
+    let bytes = word(all, ahead(s.at, 4)) as usize;
+    rt.write_all(part(all, ahead(s.at, 8), bytes))?;
+    println!(rt; ": {} answers, differences {}", s.answers, s.differences)?;
+    Ok(next_group(s, bytes))
 }
 
 // At the end.
 pub fn ended(s: State) -> State
     ensures { result ≡ stored.ended s }
 {
-    State {
-        going: false,
-        at: s.at,
-        file: s.file,
-        bytes: s.bytes,
-        map: s.map,
-        rows: s.rows,
-        answers: s.answers,
-        differences: s.differences,
-    }
+    State { going: false, ..s }
 }

@@ -1,43 +1,21 @@
-// A record view: the file that a record was loaded from, and where its instruction bytes lie. What reads the file is a function of plain
-// parameters; those of the view hand its fields on.
+// A record view: the file that a record was loaded from, and where its instruction bytes lie.
 #![tactic(auto)]
 
 ghost use Rattle.std.specs.Prelude.{◌≡◌};
-ghost use Rattle.insn.specs.Answers.{answer_of};
+ghost use Rattle.refusal.specs.Number.{answer_as};
+ghost use Rattle.insn.specs.Answers.{fetched_of};
 ghost use Rattle.view.specs.View.{part_of, shown, fetch_in};
 
-use insn::FetchAnswer;
+use insn::Fetched;
 use records_row::Record;
+use refusal::Refusal;
 
-#[derive(Drop)]
+// Place and size stand beside the file, as docs/DECISIONS.md ('The shape of each place') and the contract of `new` have them.
+#[derive(Clone, Copy)]
 pub struct RecordView<'a> {
     pub file: &'a [u8],
     pub place: usize,
     pub size: usize,
-}
-
-// The size bytes at a place of the file; none where they pass its end.
-fn part(file: &[u8], place: usize, size: usize) -> &[u8]
-    ensures { result.now ≡ part_of file.now place size }
-{
-    if file.len() < place {
-        return &file[0..0];
-    }
-    if file.len() - place < size {
-        return &file[0..0];
-    }
-    &file[place..place + size]
-}
-
-// The instruction at an offset of those bytes.
-fn fetch_in(file: &[u8], place: usize, size: usize, at: usize) -> FetchAnswer
-    ensures { answer_of result ≡ fetch_in (part_of file.now place size) at }
-{
-    let code = part(file, place, size);
-    if code.len() <= at {
-        return FetchAnswer::Refused(24);
-    }
-    insn::fetch(&code[at..])
 }
 
 impl<'a> RecordView<'a> {
@@ -52,24 +30,30 @@ impl<'a> RecordView<'a> {
         }
     }
 
-    // The instruction bytes.
+    // The instruction bytes; none where they pass the file's end.
+    #[tactic(auto, unfolding(crate::specs::View::part_of))]
     pub fn bytes(self) -> &'a [u8]
         ensures { result.now ≡ shown self.entry }
     {
-        part(self.file, self.place, self.size)
+        let Some(rest) = self.file.get(self.place..) else {
+            return &[];
+        };
+        rest.get(..self.size).unwrap_or(&[])
     }
 
     // The instruction at an offset of them.
-    pub fn fetch(self, at: usize) -> FetchAnswer
-        ensures { answer_of result ≡ fetch_in (shown self.entry) at }
+    #[tactic(auto, unfolding(format::specs::Insn::fetch))]
+    pub fn fetch(self, at: usize) -> Result<Fetched, Refusal>
+        ensures { answer_as fetched_of result ≡ fetch_in (shown self.entry) at }
     {
-        fetch_in(self.file, self.place, self.size, at)
+        let code = self.bytes().get(at..).ok_or(Refusal::CodeCut)?;
+        insn::fetch(code)
     }
 }
 
 // The instruction at an offset of a record, by its row: a caller of this needs no view.
-pub fn fetch_at(file: &[u8], rec: Record, at: usize) -> FetchAnswer
-    ensures { answer_of result ≡ fetch_in (part_of file.now rec.place rec.ilen) at }
+pub fn fetch_at(file: &[u8], rec: Record, at: usize) -> Result<Fetched, Refusal>
+    ensures { answer_as fetched_of result ≡ fetch_in (part_of file.now rec.place rec.ilen) at }
 {
     RecordView::new(file, rec).fetch(at)
 }

@@ -1,11 +1,8 @@
 -- `exam::exam_19` meets its contract.
 -- Assumes nothing.
 use mathlib.Core.Path.{◌∙◌}
-use Rattle.exam.proofs.Turns.{caught_start, caught_turn, caught_bad, caught_end, at_word}
+use Rattle.exam.proofs.Turns.{caught_turn, caught_bad, caught_end, at_word}
 use Rattle.exam.proofs.exam_19.Goals as goal
-
-pub loop-h-init : goal.loop-h-init
-loop-h-init c = caught_start
 
 pub returns-then-not-begins_at : goal.returns-then-not-begins_at
 returns-then-not-begins_at c =

@@ -1,26 +1,18 @@
 -- `exam::examine_all` meets its contract.
 -- Assumes nothing.
-use native.Mathlib.Omega.{arith}
-use mathlib.Core.Path.{refl}
-use Rattle.exam.proofs.Join.{passed_start, passed_turn, passed_stop, passed_end}
 use borrow.Author.Rules.{rules}
+use mathlib.Core.Path.{◌≡◌}
+use Rattle.refusal.specs.Number.{number, refusal_of}
+use Rattle.exam.proofs.Join.{number_some, passed_turn, passed_stop, passed_end}
 use Rattle.exam.proofs.examine_all.Goals as goal
 
-pub loop-r-init : goal.loop-r-init
-loop-r-init c = (refl, passed_start)
-
-pub examine_record-a-requires : goal.examine_record-a-requires
-examine_record-a-requires c =
-    let p = c.requires in
-    record { row_fits = p.fits.each c.loop-r.r c.loop-r-test.true; file_in_bounds = omega (arith, p.file_in_bounds, c.loop-r.invariant.0); full = p.full }
-
-pub returns-then-a-ne0 : goal.returns-then-a-ne0
-returns-then-a-ne0 c =
-    passed_stop c.loop-r-test.true c.loop-r.invariant.1 c.examine_record-a.ensures c.if-a-ne0.true
+pub returns-in_err-examine_record : goal.returns-in_err-examine_record
+returns-in_err-examine_record c =
+    let e : refusal_of c.from_residual.result ≡ number c.in_err-examine_record.field-0.0 = search rules in
+    rw e (passed_stop c.loop-r-test.true c.loop-r.invariant c.in_err-examine_record.ensures (number_some c.in_err-examine_record.field-0.0))
 
 pub loop-r-preserved : goal.loop-r-preserved
-loop-r-preserved c =
-    (search rules, passed_turn c.loop-r-test.true c.loop-r.invariant.1 c.examine_record-a.ensures c.if-a-ne0.false)
+loop-r-preserved c = passed_turn c.loop-r-test.true c.loop-r.invariant c.in_ok-examine_record.ensures
 
 pub returns : goal.returns
-returns c = passed_end c.loop-r-test.false c.loop-r.invariant.1
+returns c = passed_end c.loop-r-test.false c.loop-r.invariant

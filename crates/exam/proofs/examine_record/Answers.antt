@@ -1,16 +1,15 @@
 -- `exam::examine_record` meets its contract.
 -- Assumes nothing.
 use mathlib.Core.Path.{refl, ◌∙◌}
+use Rattle.examine_list.specs.Full.{bytes_of}
 use Rattle.exam.proofs.Join.{record_is}
 use Rattle.exam.proofs.examine_record.Goals as goal
-
-pub examine_part-requires-clause-limits : goal.examine_part-requires-clause-limits
-examine_part-requires-clause-limits c =
-    record { seven = refl; plain_limit = refl; pair_limit = c.less-pair.ensures; triple_limit = c.less-triple.ensures }
 
 pub returns : goal.returns
 returns c =
     let a = c.args in
+    let t = a.pattern.now in
+    let fits = t.fits.each a.r c.requires.inside in
     c.examine_part.ensures
-    ∙ record_is a.permitted.now a.file.now a.records.now a.handlers.now a.lines.now a.r _ _ _ _ _ _ c.word.result c.less-pair.result
-    c.less-triple.result c.word-place.ensures.0 c.word.ensures.0 refl c.word-2.ensures.0 c.word-3.ensures.0 c.word-4.ensures.0 c.word-5.ensures.0
+    ∙ record_is (bytes_of a.permitted.now.answers) t.file.now t.records.now t.handlers.now t.lines.now a.r fits _ _ _ _ _ _ c.word.result c.saturating_sub.result
+    c.saturating_sub-2.result c.word-place.ensures.0 c.word.ensures.0 refl c.word-h.ensures.0 c.word-2.ensures.0 c.word-l.ensures.0 c.word-3.ensures.0

@@ -1,10 +1,7 @@
 -- `exam::whole_tree` meets its contract.
 -- Assumes nothing.
-use Rattle.exam.proofs.Join.{laid_start, laid_turn, laid_bad, laid_end}
+use Rattle.exam.proofs.Join.{laid_turn, laid_bad, laid_end}
 use Rattle.exam.proofs.whole_tree.Goals as goal
-
-pub loop-i-init : goal.loop-i-init
-loop-i-init c = laid_start
 
 pub returns-then-p-eq0 : goal.returns-then-p-eq0
 returns-then-p-eq0 c = laid_bad c.loop-i-test.true c.loop-i.invariant c.if-p-eq0.true

@@ -1,13 +1,11 @@
 -- `examine::examine_record` meets its contract.
 -- Assumes nothing.
-use Rattle.rite.specs.Answers.{words, sizes, allowance_of}
+use Rattle.tables.specs.Tables.{words_of}
+use Rattle.rite.specs.Answers.{sizes, allowance_of}
 use Rattle.examine.proofs.Cleared.{as_single}
 use Rattle.examine.proofs.examine_record.Goals as goal
 
-pub returns : goal.returns
-returns c =
+pub returns-clause-loaded : goal.returns-clause-loaded
+returns-clause-loaded c =
     let a = c.args in
-    let lent = words a.records.now a.handlers.now a.pool.now a.symbols.now a.strings.now a.names.now a.filenames.now a.files.now a.lines.now in
-    let l = c.load_passing.new in
-    let left = words l.records l.handlers l.pool l.symbols l.strings l.names l.filenames l.files l.lines in
-    as_single a.f.now (sizes lent) (allowance_of a.a) a.permitted.now a.rec c.load_passing.result left c.load_passing.ensures
+    as_single a.f.now (sizes (words_of a.t.now)) (allowance_of a.a) a.permitted.now a.rec c.load_passing.result (words_of c.load_passing.new.t) c.load_passing.ensures.loaded

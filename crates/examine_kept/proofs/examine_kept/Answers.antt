@@ -1,44 +1,48 @@
 -- `examine_kept::examine_kept` meets its contract.
 -- Assumes nothing.
-use Rattle.rite.specs.Answers.{words, sizes, allowance_of}
+use mathlib.Core.Path.{◌≡◌, ap, ◌∙◌}
+use borrow.Author.Rules.{rules}
+use Rattle.std.specs.Prelude.{Ok}
+use Rattle.format.specs.Load.{load}
+use Rattle.tables.specs.Tables.{words_of}
+use Rattle.refusal.specs.Number.{refusal_of}
+use Rattle.rite.specs.Answers.{sizes, loaded_of, allowance_of}
+use Rattle.examine_asked.specs.Asked.{examine_asked}
 use Rattle.examine_kept.proofs.Keeping.{given, fits_given, kept_rows, kept_met, kept_refused}
 use Rattle.examine_kept.proofs.examine_kept.Goals as goal
 
-pub refusal-e-requires : goal.refusal-e-requires
-refusal-e-requires c =
+pub pattern_in-pattern-requires : goal.pattern_in-pattern-requires
+pattern_in-pattern-requires c =
     let a = c.args in
-    let l = c.load.new in
-    let m = sizes (words a.records.now a.handlers.now a.pool.now a.symbols.now a.strings.now a.names.now a.filenames.now a.files.now a.lines.now) in
-    let w = words l.records l.handlers l.pool l.symbols l.strings l.names l.filenames l.files l.lines in
-    let allow = allowance_of a.a in
-    let rows = given a.f.now m allow w c.in-Rows.u c.in-Rows.ensures in
-    fits_given a.f.now m allow w c.in-Rows.u rows
+    let u = c.in_ok-used.used in
+    let w = words_of c.load.new.t in
+    let m = sizes (words_of a.t.now) in
+    let e : loaded_of (Ok u) w ≡ load a.f.now m (allowance_of a.a) = search rules in
+    fits_given a.f.now m (allowance_of a.a) w u (given a.f.now m (allowance_of a.a) w u e)
 
-pub returns-then-e-eq0 : goal.returns-then-e-eq0
-returns-then-e-eq0 c =
+pub returns-in_err-used-clause-kept : goal.returns-in_err-used-clause-kept
+returns-in_err-used-clause-kept c =
     let a = c.args in
-    let l = c.load.new in
-    let m = sizes (words a.records.now a.handlers.now a.pool.now a.symbols.now a.strings.now a.names.now a.filenames.now a.files.now a.lines.now) in
-    let w = words l.records l.handlers l.pool l.symbols l.strings l.names l.filenames l.files l.lines in
-    let allow = allowance_of a.a in
-    let rows = given a.f.now m allow w c.in-Rows.u c.in-Rows.ensures in
-    kept_rows a.f.now m allow w c.in-Rows.u rows a.asked a.permitted.now c.refusal-e.result c.refusal-e.ensures c.if-e-eq0.true
+    let w = words_of c.load.new.t in
+    let m = sizes (words_of a.t.now) in
+    search (rules, kept_refused a.f.now m (allowance_of a.a) w a.asked a.permitted.now)
 
-pub returns-else-e-eq0 : goal.returns-else-e-eq0
-returns-else-e-eq0 c =
+pub returns-in_err-map_err-clause-kept : goal.returns-in_err-map_err-clause-kept
+returns-in_err-map_err-clause-kept c =
     let a = c.args in
-    let l = c.load.new in
-    let m = sizes (words a.records.now a.handlers.now a.pool.now a.symbols.now a.strings.now a.names.now a.filenames.now a.files.now a.lines.now) in
-    let w = words l.records l.handlers l.pool l.symbols l.strings l.names l.filenames l.files l.lines in
-    let allow = allowance_of a.a in
-    let rows = given a.f.now m allow w c.in-Rows.u c.in-Rows.ensures in
-    kept_met a.f.now m allow w c.in-Rows.u rows a.asked a.permitted.now c.refusal-e.result c.refusal-e.ensures c.if-e-eq0.false
+    let u = c.in_ok-used.used in
+    let w = words_of c.load.new.t in
+    let m = sizes (words_of a.t.now) in
+    let e : loaded_of (Ok u) w ≡ load a.f.now m (allowance_of a.a) = search rules in
+    let k = c.examine_asked.ensures ∙ ap (examine_asked a.asked a.permitted.now) c.pattern_in-pattern.ensures in
+    search (rules, kept_met a.f.now m (allowance_of a.a) w u (given a.f.now m (allowance_of a.a) w u e) a.asked a.permitted.now (refusal_of c.examine_asked.result) k)
 
-pub returns-in-Refused : goal.returns-in-Refused
-returns-in-Refused c =
+pub returns-clause-kept : goal.returns-clause-kept
+returns-clause-kept c =
     let a = c.args in
-    let l = c.load.new in
-    let m = sizes (words a.records.now a.handlers.now a.pool.now a.symbols.now a.strings.now a.names.now a.filenames.now a.files.now a.lines.now) in
-    let w = words l.records l.handlers l.pool l.symbols l.strings l.names l.filenames l.files l.lines in
-    let allow = allowance_of a.a in
-    kept_refused a.f.now m allow a.asked a.permitted.now w c.in-Refused.e c.in-Refused.ensures
+    let u = c.in_ok-used.used in
+    let w = words_of c.load.new.t in
+    let m = sizes (words_of a.t.now) in
+    let e : loaded_of (Ok u) w ≡ load a.f.now m (allowance_of a.a) = search rules in
+    let k = c.examine_asked.ensures ∙ ap (examine_asked a.asked a.permitted.now) c.pattern_in-pattern.ensures in
+    kept_rows a.f.now m (allowance_of a.a) w u (given a.f.now m (allowance_of a.a) w u e) a.asked a.permitted.now (refusal_of c.examine_asked.result) k (search rules)

@@ -1,11 +1,5 @@
--- `examine_list::write_full` meets its contract.
--- Assumes nothing.
-use Prim.Native.Nat.{◌-◌}
 use Rattle.examine_list.proofs.Full.{Writing}
 use Rattle.examine_list.proofs.write_full.Given as goal
 
 abbrev pub invariant-loop-i : goal.invariant-loop-i
 invariant-loop-i l = Writing l.list l.w l.i
-
-abbrev pub decreases-loop-i : goal.decreases-loop-i
-decreases-loop-i l = l.n - l.i

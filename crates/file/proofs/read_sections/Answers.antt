@@ -1,62 +1,49 @@
 -- `file::read_sections` meets its contract.
 -- Assumes nothing.
-use mathlib.Core.Path.{refl, ap, ◌∙◌}
-use lib.ListN.{length}
+use Rattle.std.proofs.Common.{rules, true, ◌≡◌, ◌+◌, ◌-◌, length, ◌∙◌, arith}
 use borrow.Author.Tests.{lt-leb, le-leb}
-use Rattle.file.specs.File.{words, sections_out}
-use Rattle.file.proofs.Laws.{sections_go, sections_no, sections_short, sections_done}
+use Rattle.format.specs.Bytes.{has}
+use Rattle.tables.specs.Tables.{words_of}
+use Rattle.sections.specs.Sections.{begun}
+use Rattle.file.proofs.Laws.{same_here, same_again, sections_go, sections_short, sections_done}
+use Rattle.file.proofs.read_sections.Goals.{else-loop-i-test, then-loop-i-test+then-rest-lt4}
 use Rattle.file.proofs.read_sections.Goals as goal
 
-pub loop-left-init : goal.loop-left-init
-loop-left-init c =
-    let a = c.args in
-    let lent = words a.records.now a.handlers.now a.pool.now a.symbols.now a.strings.now a.names.now a.filenames.now a.files.now a.lines.now in (
-      record { records = refl; handlers = refl; pool = refl; symbols = refl; strings = refl; names = refl; file_names = refl; files = refl; lines = refl },
-      ap (λ q. sections_out a.f.now a.limit (length a.f.now) 20 lent q) c.nothing_read-p.ensures,
+pub loop-i-init : goal.loop-i-init
+loop-i-init c =
+    let k : length c.args.f.now - 0 ≡ length c.args.f.now = omega arith in
+    let e : c.default-p.result ≡ begun = search rules in (
+      same_here c.args.t.now,
+      rw (k, e),
     )
 
-pub returns-then-rest-lt4 : goal.returns-then-rest-lt4
-returns-then-rest-lt4 c =
-    let l = c.loop-left in
-    sections_short c.args.f.now c.args.limit l.left l.at
-    (words l.records l.handlers l.pool l.symbols l.strings l.names l.filenames l.files l.lines) l.p
-    (rw (← c.rest.ensures) (lt-leb _ _ c.if-rest-lt4.true)) ∙ l.invariant.1
+pub returns-in_err-section-clause-same : goal.returns-in_err-section-clause-same
+returns-in_err-section-clause-same c = same_again _ _ _ c.loop-i.invariant.0 c.read_section.ensures.same
 
-pub returns-in-Refused : goal.returns-in-Refused
-returns-in-Refused c =
-    let last = c.read_section.new in
-    let l = c.loop-left in
-    sections_no c.args.f.now c.args.limit l.left l.at
-    (words l.records l.handlers l.pool l.symbols l.strings l.names l.filenames l.files l.lines) l.p c.read_section.result
-    (words last.records last.handlers last.pool last.symbols last.strings last.names last.filenames last.files last.lines) c.in-Refused.e
-    c.loop-left-test.true (rw (← c.rest.ensures) (le-leb _ _ c.if-rest-lt4.false)) c.read_section.ensures c.in-Refused.is ∙ l.invariant.1
+pub returns-in_err-section-clause-sections : goal.returns-in_err-section-clause-sections
+returns-in_err-section-clause-sections c =
+    let l = c.loop-i in
+    let there : has c.args.f.now l.at 4 ≡ true = rw (← c.rest.ensures) (le-leb _ _ c.if-rest-lt4.false) in
+    let e = sections_go c.args.f.now c.args.limit (length c.args.f.now - l._i) l.at (words_of l.t) l.p _ (omega arith) there c.in_err-section.ensures.section ∙ l.invariant.1 in
+    search rules
 
-pub loop-left-preserved : goal.loop-left-preserved
-loop-left-preserved c =
-    let last = c.read_section.new in
-    let l = c.loop-left in (
-      record {
-        records = c.read_section.auto.records ∙ l.invariant.0.records;
-        handlers = c.read_section.auto.handlers ∙ l.invariant.0.handlers;
-        pool = c.read_section.auto.pool ∙ l.invariant.0.pool;
-        symbols = c.read_section.auto.symbols
-            ∙ l.invariant.0.symbols;
-        strings = c.read_section.auto.strings ∙ l.invariant.0.strings;
-        names = c.read_section.auto.names
-            ∙ l.invariant.0.names;
-        file_names = c.read_section.auto.filenames
-            ∙ l.invariant.0.file_names;
-        files = c.read_section.auto.files ∙ l.invariant.0.files;
-        lines = c.read_section.auto.lines ∙ l.invariant.0.lines;
-      },
-      sections_go c.args.f.now c.args.limit l.left l.at
-          (words l.records l.handlers l.pool l.symbols l.strings l.names l.filenames l.files l.lines) l.p c.read_section.result
-          (words last.records last.handlers last.pool last.symbols last.strings last.names last.filenames last.files last.lines) c.in-Next.size
-          c.in-Next.progress c.loop-left-test.true (rw (← c.rest.ensures) (le-leb _ _ c.if-rest-lt4.false)) c.read_section.ensures c.in-Next.is ∙ l.invariant.1,
+pub loop-i-preserved : goal.loop-i-preserved
+loop-i-preserved c =
+    let l = c.loop-i in
+    let there : has c.args.f.now l.at 4 ≡ true = rw (← c.rest.ensures) (le-leb _ _ c.if-rest-lt4.false) in
+    let k : length c.args.f.now - (l._i + 1) ≡ length c.args.f.now - l._i - 1 = omega arith in (
+      same_again _ _ _ l.invariant.0 c.read_section.ensures.same,
+      rw k (sections_go c.args.f.now c.args.limit (length c.args.f.now - l._i) l.at (words_of l.t) l.p _ (omega arith) there c.in_ok-section.ensures.section ∙ l.invariant.1),
     )
 
-pub returns : goal.returns
-returns c =
-    let l = c.loop-left in
-    sections_done c.args.f.now c.args.limit l.left l.at
-    (words l.records l.handlers l.pool l.symbols l.strings l.names l.filenames l.files l.lines) l.p c.loop-left-test.false ∙ l.invariant.1
+pub returns-clause-same : goal.returns-clause-same
+returns-clause-same c = c.loop-i.invariant.0
+
+pub returns-clause-sections : goal.returns-clause-sections
+returns-clause-sections c =
+    let l = c.loop-i in
+    elim c.loop-i-test.branch [
+      | else-loop-i-test w ↦ rw c.used.ensures (sections_done c.args.f.now c.args.limit (length c.args.f.now - l._i) l.at (words_of l.t) l.p (omega arith) ∙ l.invariant.1)
+      | then-loop-i-test+then-rest-lt4 w ↦
+          rw c.used.ensures (sections_short c.args.f.now c.args.limit (length c.args.f.now - l._i) l.at (words_of l.t) l.p (rw (← w.rest.ensures) (lt-leb _ _ w.if-rest-lt4.true)) ∙ l.invariant.1)
+    ]

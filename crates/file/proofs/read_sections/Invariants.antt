@@ -1,17 +1,12 @@
--- `file::read_sections` meets its contract.
+-- `file::read_sections` meets its contract: the sections still to come, from here on, end as all of them do.
 -- Assumes nothing.
-use mathlib.Core.Path.{◌≡◌}
-use lib.ListN.{length}
+use Rattle.std.proofs.Common.{◌≡◌, ◌-◌, length}
+use Rattle.tables.specs.Tables.{words_of, Same}
 use Rattle.sections.specs.Sections.{begun}
-use Rattle.file.specs.File.{words, sections_out}
-use Rattle.file.proofs.Laws.{Same}
+use Rattle.file.specs.File.{sections_out}
 use Rattle.file.proofs.read_sections.Given as goal
 
-abbrev pub invariant-loop-left : goal.invariant-loop-left
-invariant-loop-left l =
-    let now = words l.records l.handlers l.pool l.symbols l.strings l.names l.filenames l.files l.lines in
-    let lent = words l.initial.records l.initial.handlers l.initial.pool l.initial.symbols l.initial.strings l.initial.names l.initial.filenames l.initial.files l.initial.lines in
-    Same now lent × (sections_out l.f l.limit l.left l.at now l.p ≡ sections_out l.f l.limit (length l.f) 20 lent begun)
-
-abbrev pub decreases-loop-left : goal.decreases-loop-left
-decreases-loop-left l = l.left
+abbrev pub invariant-loop-i : goal.invariant-loop-i
+invariant-loop-i l =
+    Same l.initial.t l.t
+    × (sections_out l.f l.limit (length l.f - l._i) l.at (words_of l.t) l.p ≡ sections_out l.f l.limit (length l.f) 20 (words_of l.initial.t) begun)

@@ -6,8 +6,8 @@ use Rattle.flags.proofs.lands_at.Goals as goal
 
 pub returns-then-j-lt65536 : goal.returns-then-j-lt65536
 returns-then-j-lt65536 c =
-    lands_before c.args.code.now c.requires.le_next.0 c.wide.ensures.0 c.wide-2.ensures.0 c.signed.ensures.0 c.if-j-lt65536.true
+    lands_before c.args.code.now c.requires.le_next.0 c.from.ensures c.from-2.ensures c.signed.ensures.0 c.if-j-lt65536.true
 
 pub returns : goal.returns
 returns c =
-    c.begins_at.ensures ∙ lands_there c.args.code.now c.requires.le_next.0 c.wide.ensures.0 c.wide-2.ensures.0 c.signed.ensures.0 c.if-j-lt65536.false
+    c.begins_at.ensures ∙ lands_there c.args.code.now c.requires.le_next.0 c.from.ensures c.from-2.ensures c.signed.ensures.0 c.if-j-lt65536.false

@@ -2,11 +2,8 @@
 -- Assumes nothing.
 use native.Mathlib.Omega.{arith}
 use Rattle.format.specs.Insn.{opcode}
-use Rattle.flags.proofs.Tested.{opcode_inside}
+use Rattle.flags.proofs.Tests.{opcode_inside}
 use Rattle.flags.proofs.opcode_at.Goals as goal
-
-pub overflow_add-result : goal.overflow_add-result
-overflow_add-result c = omega (arith, c.lead.ensures, opcode_inside c.requires)
 
 pub bounds-code-i-2 : goal.bounds-code-i-2
 bounds-code-i-2 c = omega (arith, c.lead.ensures, opcode_inside c.requires)

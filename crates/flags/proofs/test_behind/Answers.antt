@@ -7,10 +7,11 @@ use lib.Dec.{ltb}
 use lib.ListN.{length}
 use Rattle.format.specs.Bytes.{byte}
 use Rattle.opcode.proofs.Numbers.{no_size}
-use Rattle.format.proofs.Prefix.{first_one_or_two, second_one_or_two}
+use borrow.Author.Rules.{rules}
+use Rattle.flags.specs.Flags.{Limits}
 use Rattle.flags.proofs.Roles.{numbered, bounded_behind, flag_told}
-use Rattle.flags.proofs.Tested.{lead_none, lead_some, tested_stray, tested_unreadable, tested_whole, cut, whole, not_stray, unknown_alone}
-use Rattle.flags.proofs.Tested.{stray_last, stray_again, not_again, unknown_behind, not_stray_behind, looked_behind, known_behind, next_behind}
+use Rattle.flags.proofs.Tests.{lead_none, lead_some, tested_stray, tested_unreadable, tested_whole, cut, whole, not_stray, unknown_alone}
+use Rattle.flags.proofs.Tests.{stray_last, stray_again, not_again, unknown_behind, not_stray_behind, looked_behind, known_behind, next_behind}
 use Rattle.flags.proofs.test_behind.Goals as goal
 
 pub returns-then-lead-eq0 : goal.returns-then-lead-eq0
@@ -18,14 +19,14 @@ returns-then-lead-eq0 c =
     let a = c.args in
     let code = a.code.now in
     let p = lead_none (byte code a.i) c.lead.ensures c.if-lead-eq0.true in
-    tested_unreadable a.limits.now code a.i (not_stray code a.i p) (unknown_alone code a.i p c.requires.i_in_bounds.1)
+    tested_unreadable a.limits.now.by_role code a.i (not_stray code a.i p) (unknown_alone code a.i p c.requires.i_in_bounds.1)
 
 pub returns-then-at-code : goal.returns-then-at-code
 returns-then-at-code c =
     let a = c.args in
     let code = a.code.now in
     let p = lead_some (byte code a.i) c.lead.ensures c.if-lead-eq0.false in
-    tested_stray a.limits.now code a.i (stray_last code a.i p (omega (arith, c.if-at-code.true)))
+    tested_stray a.limits.now.by_role code a.i (stray_last code a.i p (omega (arith, c.if-at-code.true)))
 
 pub returns-then-lead-eq0-2 : goal.returns-then-lead-eq0-2
 returns-then-lead-eq0-2 c =
@@ -35,7 +36,7 @@ returns-then-lead-eq0-2 c =
     let p = lead_some (byte code a.i) c.lead.ensures c.if-lead-eq0.false in
     let h : a.i + 1 < length code = omega (arith, c.if-at-code.false, c.requires.i_in_bounds.0) in
     let q = lead_none b c.lead-then-d-eq0.ensures c.if-lead-eq0-2.true in
-    tested_unreadable a.limits.now code a.i (not_again code a.i p h q)
+    tested_unreadable a.limits.now.by_role code a.i (not_again code a.i p h q)
     (unknown_behind code a.i p h (no_size b c.digits-d.ensures c.if-d-eq0.true) q)
 
 pub returns-then-d-eq0 : goal.returns-then-d-eq0
@@ -45,7 +46,7 @@ returns-then-d-eq0 c =
     let p = lead_some (byte code a.i) c.lead.ensures c.if-lead-eq0.false in
     let h : a.i + 1 < length code = omega (arith, c.if-at-code.false, c.requires.i_in_bounds.0) in
     let q = lead_some (byte code (a.i + 1)) c.lead-then-d-eq0.ensures c.if-lead-eq0-2.false in
-    tested_stray a.limits.now code a.i (stray_again code a.i p h q)
+    tested_stray a.limits.now.by_role code a.i (stray_again code a.i p h q)
 
 pub returns-then-code-i : goal.returns-then-code-i
 returns-then-code-i c =
@@ -56,24 +57,21 @@ returns-then-code-i c =
     let e = c.digits-d.ensures in
     let s = c.if-d-eq0.false in
     let n = next_behind code a.i h p e s c.size_behind-n.ensures.0 in
-    tested_unreadable a.limits.now code a.i (not_stray_behind code a.i h p e s)
+    tested_unreadable a.limits.now.by_role code a.i (not_stray_behind code a.i h p e s)
     (cut code a.i (known_behind code a.i h p e s) (omega (arith, n, c.if-code-i.true)))
 
-pub operands_below-below-requires : goal.operands_below-below-requires
-operands_below-below-requires c =
+pub operands_below-below-requires-clause-numbered : goal.operands_below-below-requires-clause-numbered
+operands_below-below-requires-clause-numbered c =
     let a = c.args in
     let code = a.code.now in
-    let b = byte code a.i in
-    let p = lead_some b c.lead.ensures c.if-lead-eq0.false in
+    let p = lead_some (byte code a.i) c.lead.ensures c.if-lead-eq0.false in
     let h : a.i + 1 < length code = omega (arith, c.if-at-code.false, c.requires.i_in_bounds.0) in
-    let k = looked_behind code a.i h p c.digits-d.ensures c.if-d-eq0.false in
-    let x = first_one_or_two b c.first_width.ensures in
-    let y = second_one_or_two b c.second_width.ensures in
-    record { limits = c.requires.limits; numbered = numbered k; le_x = (x.0, x.1, y.0, y.1, omega (arith, k.inside)) }
+    numbered (looked_behind code a.i h p c.digits-d.ensures c.if-d-eq0.false)
 
 pub returns : goal.returns
 returns c =
     let a = c.args in
+    let limits : Limits a.limits.now.by_role = search rules in
     let code = a.code.now in
     let p = lead_some (byte code a.i) c.lead.ensures c.if-lead-eq0.false in
     let h : a.i + 1 < length code = omega (arith, c.if-at-code.false, c.requires.i_in_bounds.0) in
@@ -81,14 +79,8 @@ returns c =
     let s = c.if-d-eq0.false in
     let n = next_behind code a.i h p e s c.size_behind-n.ensures.0 in
     let k = looked_behind code a.i h p e s in
-    let f = bounded_behind k c.requires.limits p c.first_width.ensures c.second_width.ensures c.operands_below-below.ensures in
-    tested_whole a.limits.now code a.i (not_stray_behind code a.i h p e s)
+    let f = bounded_behind k limits p c.first_width.ensures c.second_width.ensures c.operands_below-below.ensures in
+    tested_whole a.limits.now.by_role code a.i (not_stray_behind code a.i h p e s)
     (whole code a.i (known_behind code a.i h p e s) (omega (arith, n, c.if-code-i.false)))
     (omega (arith, n))
-    (c.wide.ensures.0 ∙ c.flag_of.ensures.0 ∙ flag_told k a.limits.now f (ap (λ (x : ℕ). ltb x (length code)) n))
-
-pub overflow_mul-result : goal.overflow_mul-result
-overflow_mul-result c = omega (arith, c.wide.ensures.1)
-
-pub overflow_add-result : goal.overflow_add-result
-overflow_add-result c = omega (arith, c.wide.ensures.1, c.size_behind-n.ensures.1)
+    (c.flag_of-flag.ensures.0 ∙ flag_told k a.limits.now.by_role f (ap (λ (x : ℕ). ltb x (length code)) n))

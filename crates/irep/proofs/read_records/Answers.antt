@@ -2,47 +2,42 @@
 -- Assumes nothing.
 use Prim.Native.Nat.{◌-◌}
 use native.Mathlib.Omega.{arith}
-use mathlib.Core.Path.{refl, ◌∙◌}
+use mathlib.Core.Path.{◌∙◌}
+use borrow.Author.Rules.{rules}
 use lib.ListN.{length}
-use Rattle.irep.specs.Record.{lent, run}
-use Rattle.irep.proofs.Laws.{records_done, records_go, records_no, records_later}
+use Rattle.irep.specs.Record.{lent}
+use Rattle.irep.proofs.Laws.{records_done, record_next, records_go, records_no}
+use Rattle.refusal.specs.Number.{number}
 use Rattle.irep.proofs.read_records.Goals as goal
 
-pub loop-at-init : goal.loop-at-init
-loop-at-init c = (record { records = refl; handlers = refl; pool = refl; symbols = refl }, (length c.args.f.now, omega arith, refl))
+pub loop-reached-init : goal.loop-reached-init
+loop-reached-init c = (length c.args.part.bytes.now, omega arith, let d = c.default.ensures in search rules)
 
-pub loop-at-smaller : goal.loop-at-smaller
-loop-at-smaller c =
-    let a = c.args in let r = c.read_record in let l = c.loop-at in let n = c.in-Next in
-    let o = run r.result (lent r.new.records r.new.handlers r.new.pool r.new.symbols) in
-    let t = lent l.records l.handlers l.pool l.symbols in
-    let p = records_later a.f.now a.base a.size a.limit l.at t l.used l.invariant.1.0 l.invariant.1.1 c.loop-at-test.true o r.ensures n.next n.v n.is in
-    omega (arith, p, c.loop-at-test.true)
+pub loop-reached-smaller : goal.loop-reached-smaller
+loop-reached-smaller c =
+    let a = c.args in let r = c.read_record.new in let l = c.loop-reached in let n = c.in_ok-reached in
+    let p = record_next a.part.bytes.now a.part.base a.limit l.reached.at (lent l.records l.handlers l.pool l.symbols) l.reached.used n.reached
+    (lent r.records r.handlers r.pool r.symbols) n.ensures in
+    omega (arith, p, c.loop-reached-test.true)
 
-pub loop-at-preserved : goal.loop-at-preserved
-loop-at-preserved c =
-    let a = c.args in let r = c.read_record in let l = c.loop-at in let n = c.in-Next in
-    let o = run r.result (lent r.new.records r.new.handlers r.new.pool r.new.symbols) in
-    let t = lent l.records l.handlers l.pool l.symbols in
-    let p = records_later a.f.now a.base a.size a.limit l.at t l.used l.invariant.1.0 l.invariant.1.1 c.loop-at-test.true o r.ensures n.next n.v n.is in
-    let q = records_go a.f.now a.base a.size a.limit l.at t l.used l.invariant.1.0 l.invariant.1.1 c.loop-at-test.true o r.ensures n.next n.v n.is in (
-      record {
-        records = r.auto.records ∙ l.invariant.0.records;
-        handlers = r.auto.handlers ∙ l.invariant.0.handlers;
-        pool = r.auto.pool ∙ l.invariant.0.pool;
-        symbols = r.auto.symbols ∙ l.invariant.0.symbols;
-      },
-      (l.invariant.1.0 - 1, omega (arith, p, l.invariant.1.1, c.loop-at-test.true), q ∙ l.invariant.1.2),
-    )
+pub loop-reached-preserved : goal.loop-reached-preserved
+loop-reached-preserved c =
+    let a = c.args in let r = c.read_record in let l = c.loop-reached in let n = c.in_ok-reached in
+    let t = lent l.records l.handlers l.pool l.symbols in let t' = lent r.new.records r.new.handlers r.new.pool r.new.symbols in
+    let p = record_next a.part.bytes.now a.part.base a.limit l.reached.at t l.reached.used n.reached t' n.ensures in
+    let q = records_go a.part.bytes.now a.part.base a.size a.limit l.reached.at t l.reached.used l.invariant.0 l.invariant.1 c.loop-reached-test.true t' n.reached n.ensures in
+    (l.invariant.0 - 1, omega (arith, p, l.invariant.1, c.loop-reached-test.true), q ∙ l.invariant.2)
 
-pub returns-in-Refused : goal.returns-in-Refused
-returns-in-Refused c =
-    let a = c.args in let r = c.read_record in let l = c.loop-at in
-    records_no a.f.now a.base a.size a.limit l.at (lent l.records l.handlers l.pool l.symbols) l.used l.invariant.1.0 l.invariant.1.1 c.loop-at-test.true
-    (run r.result (lent r.new.records r.new.handlers r.new.pool r.new.symbols)) r.ensures
-    c.in-Refused.k c.in-Refused.is ∙ l.invariant.1.2
+pub returns-in_err-reached : goal.returns-in_err-reached
+returns-in_err-reached c =
+    let a = c.args in let r = c.read_record.new in let l = c.loop-reached in
+    let e =
+    records_no a.part.bytes.now a.part.base a.size a.limit l.reached.at (lent l.records l.handlers l.pool l.symbols) l.reached.used l.invariant.0 l.invariant.1 c.loop-reached-test.true
+    (lent r.records r.handlers r.pool r.symbols) (number c.in_err-reached.field-0.0) c.in_err-reached.ensures
+    ∙ l.invariant.2 in
+    search rules
 
 pub returns : goal.returns
 returns c =
-    let l = c.loop-at in let a = c.args in
-    records_done a.f.now a.base a.size a.limit l.at (lent l.records l.handlers l.pool l.symbols) l.used l.invariant.1.0 c.loop-at-test.false ∙ l.invariant.1.2
+    let l = c.loop-reached in let a = c.args in
+    records_done a.part.bytes.now a.part.base a.size a.limit l.reached.at (lent l.records l.handlers l.pool l.symbols) l.reached.used l.invariant.0 c.loop-reached-test.false ∙ l.invariant.2

@@ -1,16 +1,15 @@
--- `irep::read_records` meets its contract.
+-- `irep::read_records` meets its contract: the records still to come, from here on, end as all of them do.
 -- Assumes nothing.
 use Prim.Native.Nat.{ℕ, ◌-◌, ◌≤◌}
 use mathlib.Core.Path.{◌≡◌}
 use lib.ListN.{length}
-use Rattle.irep.specs.Record.{lent, records_of}
-use Rattle.irep.proofs.Laws.{Same}
+use Rattle.irep.specs.Record.{unused, lent, records_of}
 use Rattle.irep.proofs.read_records.Given as goal
 
-abbrev pub invariant-loop-at : goal.invariant-loop-at
-invariant-loop-at l = Same (lent l.records l.handlers l.pool l.symbols) (lent l.initial.records l.initial.handlers l.initial.pool l.initial.symbols)
-    × ((k : ℕ) × (l.size - l.at ≤ k) × (records_of l.f l.base l.size l.limit k l.at (lent l.records l.handlers l.pool l.symbols) l.used ≡ records_of l.f l.base l.size l.limit (length l.f) l.from
-    (lent l.initial.records l.initial.handlers l.initial.pool l.initial.symbols) l.initial.used))
+abbrev pub invariant-loop-reached : goal.invariant-loop-reached
+invariant-loop-reached l = (k : ℕ) × (l.size - l.reached.at ≤ k) × (
+    records_of l.part.bytes.now l.part.base l.size l.limit k l.reached.at (lent l.records l.handlers l.pool l.symbols) l.reached.used
+    ≡ records_of l.part.bytes.now l.part.base l.size l.limit (length l.part.bytes.now) 12 (lent l.initial.records l.initial.handlers l.initial.pool l.initial.symbols) unused)
 
-abbrev pub decreases-loop-at : goal.decreases-loop-at
-decreases-loop-at l = l.size - l.at
+abbrev pub decreases-loop-reached : goal.decreases-loop-reached
+decreases-loop-reached l = l.size - l.reached.at

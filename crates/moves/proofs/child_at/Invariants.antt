@@ -1,11 +1,7 @@
 -- `moves::child_at` meets its contract.
 -- Assumes nothing.
-use Prim.Native.Nat.{◌-◌}
 use Rattle.moves.proofs.Children.{Seeking}
 use Rattle.moves.proofs.child_at.Given as goal
 
 abbrev pub invariant-loop-i : goal.invariant-loop-i
 invariant-loop-i l = Seeking l.records l.n l.r l.k l.i l.trees
-
-abbrev pub decreases-loop-i : goal.decreases-loop-i
-decreases-loop-i l = l.n - l.i

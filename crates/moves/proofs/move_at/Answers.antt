@@ -1,7 +1,7 @@
 -- `moves::move_at` meets its contract.
 -- Assumes nothing.
 use Rattle.exam.specs.View.{targets}
-use Rattle.moves.proofs.Moves.{by_on, by_jump, by_enter, by_caught, by_leave}
+use Rattle.moves.proofs.Moves.{by_on, by_jump, by_enter, by_leave}
 use Rattle.moves.proofs.move_at.Goals as goal
 
 pub returns-in-GoOn : goal.returns-in-GoOn
@@ -15,10 +15,6 @@ returns-in-Jump c =
 pub returns-in-Enter : goal.returns-in-Enter
 returns-in-Enter c =
     let a = c.args in by_enter a.code.now (targets a.handlers.now a.first a.number) a.o c.in-Enter.is c.enter.ensures
-
-pub returns-in-Caught : goal.returns-in-Caught
-returns-in-Caught c =
-    let a = c.args in by_caught a.code.now (targets a.handlers.now a.first a.number) a.o c.in-Caught.is c.caught.ensures
 
 pub returns-in-Leave : goal.returns-in-Leave
 returns-in-Leave c = let a = c.args in by_leave a.code.now (targets a.handlers.now a.first a.number) a.o c.in-Leave.is

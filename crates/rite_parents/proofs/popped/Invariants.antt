@@ -6,7 +6,4 @@ use Rattle.rite_parents.specs.Pass.{pop_to}
 use Rattle.rite_parents.proofs.popped.Given as goal
 
 abbrev pub invariant-loop-k : goal.invariant-loop-k
-invariant-loop-k l = (l.k ≤ l.height) × (pop_to l.left l.k ≡ pop_to l.left l.height)
-
-abbrev pub decreases-loop-k : goal.decreases-loop-k
-decreases-loop-k l = l.k
+invariant-loop-k l = (l.k ≤ l.height) × (pop_to l.stack l.k ≡ pop_to l.stack l.height)

@@ -1,27 +1,13 @@
 -- `run::one_step` meets its contract.
 -- Assumes nothing.
 use native.Mathlib.Omega.{arith}
-use Prim.Native.Nat.{◌+◌, ◌*◌}
 use Rattle.moves.specs.Answers.{choice_of}
 use Rattle.run.proofs.Steps.{sizes, held_none, inside, row_fits, top_stands, held_gone, to_small, held_to, into_small, into_room, held_into}
-use Rattle.format.specs.Rows.{record_width}
 use Rattle.run.proofs.one_step.Goals as goal
 
 pub returns-then-d-eq0 : goal.returns-then-d-eq0
 returns-then-d-eq0 c =
     let a = c.args in held_none _ a.frames.now a.d (choice_of a.choice) c.if-d-eq0.true c.requires.held
-
-pub overflow_mul-top : goal.overflow_mul-top
-overflow_mul-top c = omega (arith, sizes c.requires.ready c.requires.n_in_bounds c.requires.held)
-
-pub word-r-requires : goal.word-r-requires
-word-r-requires c = omega (arith, sizes c.requires.ready c.requires.n_in_bounds c.requires.held)
-
-pub overflow_add-top : goal.overflow_add-top
-overflow_add-top c = omega (arith, sizes c.requires.ready c.requires.n_in_bounds c.requires.held)
-
-pub word-o-requires : goal.word-o-requires
-word-o-requires c = omega (arith, sizes c.requires.ready c.requires.n_in_bounds c.requires.held)
 
 pub move_in-requires : goal.move_in-requires
 move_in-requires c =
@@ -34,9 +20,6 @@ move_in-requires c =
       stands = top_stands q.ready q.n_in_bounds q.held c.if-d-eq0.false c.word-r.ensures.0 c.word-o.ensures.0;
     }
 
-pub put_frame-requires : goal.put_frame-requires
-put_frame-requires c = omega (arith, sizes c.requires.ready c.requires.n_in_bounds c.requires.held)
-
 pub put_frame-requires-in-To : goal.put_frame-requires-in-To
 put_frame-requires-in-To c =
     omega (
@@ -47,15 +30,12 @@ put_frame-requires-in-To c =
           (choice_of c.args.choice) _ c.in-To.ensures,
     )
 
-pub child_at-entered-requires : goal.child_at-entered-requires
-child_at-entered-requires c =
+pub child_record-entered-requires : goal.child_record-entered-requires
+child_record-entered-requires c =
     let q = c.requires in
-    let k = into_small q.ready q.n_in_bounds q.held c.if-d-eq0.false c.word-r.ensures.0 c.word-o.ensures.0 (choice_of c.args.choice) _ _ c.in-Into.ensures in (
-      q.ready.fits.few,
-      q.ready.fits.held,
-      inside q.ready q.n_in_bounds q.held c.if-d-eq0.false c.word-r.ensures.0 c.word-o.ensures.0,
-      omega (arith, k.1, c.type_inv.records (c.word-r.result * record_width + 3)),
-    )
+    let k = into_small q.ready q.n_in_bounds q.held c.if-d-eq0.false c.word-r.ensures.0 c.word-o.ensures.0 (choice_of c.args.choice) _ _ c.in-Into.ensures in
+    let i = inside q.ready q.n_in_bounds q.held c.if-d-eq0.false c.word-r.ensures.0 c.word-o.ensures.0 in
+    record { few = (q.ready.fits.few, q.ready.fits.held, i); k_bound = k.1 }
 
 pub put_frame-requires-in-Into : goal.put_frame-requires-in-Into
 put_frame-requires-in-Into c =
@@ -74,12 +54,8 @@ put_frame-requires-in-Into-2 c =
       sizes c.requires.ready c.requires.n_in_bounds c.requires.held,
       c.put_frame-in-Into.auto.frames,
       into_room c.requires.ready c.requires.n_in_bounds c.requires.held c.if-d-eq0.false c.word-r.ensures.0 c.word-o.ensures.0
-          (choice_of c.args.choice) _ _ c.in-Into.ensures _ c.child_at-entered.ensures,
+          (choice_of c.args.choice) _ _ c.in-Into.ensures _ c.child_record-entered.ensures,
     )
-
-pub overflow_add-result : goal.overflow_add-result
-overflow_add-result c =
-    omega (arith, sizes c.requires.ready c.requires.n_in_bounds c.requires.held)
 
 pub returns-in-Gone : goal.returns-in-Gone
 returns-in-Gone c =
@@ -94,4 +70,4 @@ returns-in-To c =
 pub returns-in-Into : goal.returns-in-Into
 returns-in-Into c =
     held_into c.requires.ready c.requires.n_in_bounds c.requires.held c.if-d-eq0.false c.word-r.ensures.0 c.word-o.ensures.0 (choice_of c.args.choice) _ _
-    c.in-Into.ensures _ c.child_at-entered.ensures c.put_frame-in-Into.ensures c.put_frame-in-Into-2.ensures
+    c.in-Into.ensures _ c.child_record-entered.ensures c.put_frame-in-Into.ensures c.put_frame-in-Into-2.ensures

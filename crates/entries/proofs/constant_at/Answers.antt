@@ -1,7 +1,0 @@
--- `entries::constant_at` meets its contract.
--- Assumes nothing.
-use native.Mathlib.Nat.{add-zero}
-use Rattle.entries.proofs.constant_at.Goals as goal
-
-pub returns : goal.returns
-returns c = rw add-zero c.constant_of.ensures
