@@ -160,7 +160,9 @@ fn size_behind(p: u8, d: usize) -> usize
     1 + d % SIZE + x * (d / FIRST_BYTE % BASE) + y * (d / SECOND_BYTE % BASE)
 }
 
-// The tests of the instruction at `i`, whose first byte is no instruction by itself: its size and its flag, or what it meets of 16 and 25.
+// The tests of the instruction at `i`, whose first byte is no instruction by itself: its size and its flag, or what it meets of 16 and 25. It stays a call, so
+// that the loop over instructions without a prefix has the registers to itself.
+#[inline(never)]
 pub fn test_behind(code: &[u8], i: usize, limits: &OperandLimits) -> Result<Tested, Refusal>
     requires i_in_bounds { (i < length code.now) × (false ≡ instruction (byte code.now i)) }
     ensures { answer_as found_of result ≡ tested_at limits.now.by_role code.now i }
