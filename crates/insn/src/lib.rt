@@ -1,7 +1,7 @@
 // Instructions: fetching one with its operands.
 #![tactic(auto)]
 
-ghost use Rattle.std.specs.Prelude.{◌≡◌, ◌<◌, length};
+ghost use Rattle.std.specs.Prelude.{◌≡◌};
 ghost use Rattle.format.specs.Insn as format;
 ghost use Rattle.opcode_kind.specs.Kinds.{kind_of};
 ghost use Rattle.refusal.specs.Number.{answer_as};
@@ -49,26 +49,65 @@ impl Fetched {
     }
 }
 
-// The operands of a kind, from an instruction of that kind.
-#[tactic(auto, unfolding(format::specs::Insn::operands))]
-fn operands(kind: Kind, bin: &[u8]) -> Fetched
-    requires { format.width (kind_of kind) < length bin.now }
-    ensures { fetched_of result ≡ format.insn (kind_of kind) (format.operands (format.fields (kind_of kind)) bin.now 1) }
+// The instruction of a kind, 24 where there are too few bytes. Each kind tests its own: one test before the match would be a second match.
+#[tactic(auto, unfolding(format::specs::Insn::fetch_as, format::specs::Insn::operands))]
+fn fetch_as(kind: Kind, bin: &[u8]) -> Result<Fetched, Refusal>
+    ensures { answer_as fetched_of result ≡ format.fetch_as (kind_of kind) bin.now }
 {
     match kind {
-        Kind::Z => Fetched::Z,
-        Kind::BB => Fetched::BB(bin[1], bin[2]),
-        Kind::B => Fetched::B(bin[1]),
-        Kind::BS => Fetched::BS(bin[1], u16_in(bin, 2)),
-        Kind::BSS => Fetched::BSS(bin[1], u16_in(bin, 2), u16_in(bin, 4)),
-        Kind::BBB => Fetched::BBB(bin[1], bin[2], bin[3]),
-        Kind::S => Fetched::S(u16_in(bin, 1)),
-        Kind::W => Fetched::W(u32::from_be_bytes([0, bin[1], bin[2], bin[3]])),
+        Kind::Z => {
+            if bin.len() < Kind::Z.size() {
+                return Err(Refusal::CodeCut);
+            }
+            Ok(Fetched::Z)
+        }
+        Kind::BB => {
+            if bin.len() < Kind::BB.size() {
+                return Err(Refusal::CodeCut);
+            }
+            Ok(Fetched::BB(bin[1], bin[2]))
+        }
+        Kind::B => {
+            if bin.len() < Kind::B.size() {
+                return Err(Refusal::CodeCut);
+            }
+            Ok(Fetched::B(bin[1]))
+        }
+        Kind::BS => {
+            if bin.len() < Kind::BS.size() {
+                return Err(Refusal::CodeCut);
+            }
+            Ok(Fetched::BS(bin[1], u16_in(bin, 2)))
+        }
+        Kind::BSS => {
+            if bin.len() < Kind::BSS.size() {
+                return Err(Refusal::CodeCut);
+            }
+            Ok(Fetched::BSS(bin[1], u16_in(bin, 2), u16_in(bin, 4)))
+        }
+        Kind::BBB => {
+            if bin.len() < Kind::BBB.size() {
+                return Err(Refusal::CodeCut);
+            }
+            Ok(Fetched::BBB(bin[1], bin[2], bin[3]))
+        }
+        Kind::S => {
+            if bin.len() < Kind::S.size() {
+                return Err(Refusal::CodeCut);
+            }
+            Ok(Fetched::S(u16_in(bin, 1)))
+        }
+        Kind::W => {
+            if bin.len() < Kind::W.size() {
+                return Err(Refusal::CodeCut);
+            }
+            Ok(Fetched::W(u32::from_be_bytes([0, bin[1], bin[2], bin[3]])))
+        }
     }
 }
 
 // The instruction that starts the bytes: 24 where there are too few, 23 where the opcode byte is above STOP's. Further bytes are ignored.
-#[tactic(auto, unfolding(format::specs::Insn::fetch, format::specs::Insn::fetch_as), using(opcode::proofs::Rows::kind_told))]
+#[tactic(auto, unfolding(format::specs::Insn::fetch), using(opcode::proofs::Rows::kind_told))]
 pub fn fetch(bin: &[u8]) -> Result<Fetched, Refusal>
     ensures { answer_as fetched_of result ≡ format.fetch bin.now }
 {
@@ -78,9 +117,5 @@ pub fn fetch(bin: &[u8]) -> Result<Fetched, Refusal>
     if b > names::STOP {
         return Err(Refusal::UnknownOpcode);
     }
-    let kind = op_row(b).kind;
-    if bin.len() < kind.size() {
-        return Err(Refusal::CodeCut);
-    }
-    Ok(operands(kind, bin))
+    fetch_as(op_row(b).kind, bin)
 }

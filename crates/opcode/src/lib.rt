@@ -319,7 +319,8 @@ fn flow_of(inside: usize, last: usize) -> Flow
     }
 }
 
-// The row of an opcode byte.
+// The row of an opcode byte. It is part of its caller, so that one that asks for a field does not make the others.
+#[inline(always)]
 #[tactic(auto, using(crate::proofs::Rows::row_told))]
 pub fn op_row(b: u8) -> OpRow
     ensures { row_of result ≡ op_row b }
