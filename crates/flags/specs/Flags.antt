@@ -1,6 +1,6 @@
 -- The tests of an instruction, its flag, and what flags say of a record: a record of which only the bytes and the counts matter.
 -- Assumes nothing.
-use Rattle.std.specs.Prelude.{ℕ, zero, suc, ◌+◌, ◌-◌, ◌*◌, ◌≤◌, ◌<◌, ◌≡◌, Bool, false, cond, ◌&&◌, ◌||◌, List, [], leb, ltb, eqb, length, get_or, drop}
+use Rattle.std.specs.Prelude.{ℕ, zero, suc, ◌+◌, ◌-◌, ◌*◌, ◌≤◌, ◌<◌, ◌≡◌, Bool, true, false, cond, ◌&&◌, ◌||◌, List, [], leb, ltb, eqb, length, get_or, drop}
 use Rattle.format.specs.Bytes.{Answer, ok, refused, byte, u16_at, refuse}
 use Rattle.format.specs.Insn.{flow, prefix, first_width, second_width, opcode, row_at, rest, next, signed16}
 use Rattle.format.specs.Pattern.{Record, begins}
@@ -29,6 +29,13 @@ pub record Alone (c : List ℕ) (o d : ℕ) : Type 0 where
   pub looked : Looked c o d
   pub no_prefix : prefix (byte c o) ≡ false
   pub next_is : o + size_in d ≡ next c o
+  pub whole : next c o ≤ length c
+
+-- or has a prefix and is whole, of n bytes
+pub record Behind (c : List ℕ) (o n d : ℕ) : Type 0 where
+  pub looked : Looked c o d
+  pub prefixed : prefix (byte c o) ≡ true
+  pub next_is : o + n ≡ next c o
   pub whole : next c o ≤ length c
 
 -- the instruction at o meets neither 16 nor 25

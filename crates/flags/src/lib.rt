@@ -8,7 +8,7 @@ ghost use Rattle.format.specs.Registers as registers;
 ghost use Rattle.format.specs.Pattern.{begins};
 ghost use Rattle.refusal.specs.Number.{answer_as};
 ghost use Rattle.opcode.specs.Digits.{end_by, instruction};
-ghost use Rattle.flags.specs.Flags.{Numbered, Alone, Entire, bare, size_behind, within, below_by, flag_at, flag_by, found_of, tested_at, Marked, lands_from};
+ghost use Rattle.flags.specs.Flags.{Numbered, Alone, Behind, Entire, bare, size_behind, within, below_by, flag_at, flag_by, found_of, tested_at, Marked, lands_from};
 
 pub mod limits;
 
@@ -160,9 +160,19 @@ fn size_behind(p: u8, d: usize) -> usize
     1 + d % SIZE + x * (d / FIRST_BYTE % BASE) + y * (d / SECOND_BYTE % BASE)
 }
 
-// The tests of the instruction at `i`, whose first byte is no instruction by itself: its size and its flag, or what it meets of 16 and 25. It stays a call, so
-// that the loop over instructions without a prefix has the registers to itself.
+// The flag of the instruction at `i`, which has a prefix and is whole, of `n` bytes, by the digits of its opcode. It stays a call, so that the loop over
+// instructions has the registers to itself.
 #[inline(never)]
+fn flag_behind(code: &[u8], i: usize, n: usize, d: usize, limits: &OperandLimits) -> u8
+    requires { Behind code.now i n d }
+    ensures { result ≡ flag_at (bare limits.now.by_role code.now) i }
+{
+    let p = code[i];
+    let below = operands_below(code, i + 2, first_width(p), second_width(p), d, limits);
+    flag_of(below, i + n < code.len(), d)
+}
+
+// The tests of the instruction at `i`, whose first byte is no instruction by itself: its size and its flag, or what it meets of 16 and 25.
 pub fn test_behind(code: &[u8], i: usize, limits: &OperandLimits) -> Result<Tested, Refusal>
     requires i_in_bounds { (i < length code.now) × (false ≡ instruction (byte code.now i)) }
     ensures { answer_as found_of result ≡ tested_at limits.now.by_role code.now i }
@@ -187,8 +197,7 @@ pub fn test_behind(code: &[u8], i: usize, limits: &OperandLimits) -> Result<Test
     if code.len() - i < n {
         return Err(Refusal::Unreadable);
     }
-    let below = operands_below(code, i + 2, first_width(p), second_width(p), d, limits);
-    let flag = flag_of(below, i + n < code.len(), d);
+    let flag = flag_behind(code, i, n, d, limits);
     Ok(Tested { size: n, flag })
 }
 

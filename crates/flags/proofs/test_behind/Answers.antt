@@ -2,14 +2,9 @@
 -- Assumes nothing.
 use native.Mathlib.Omega.{arith}
 use Prim.Native.Nat.{ℕ, ◌+◌, ◌<◌}
-use mathlib.Core.Path.{ap, ◌∙◌}
-use lib.Dec.{ltb}
 use lib.ListN.{length}
 use Rattle.format.specs.Bytes.{byte}
 use Rattle.opcode.proofs.Numbers.{no_size}
-use borrow.Author.Rules.{rules}
-use Rattle.flags.specs.Flags.{Limits}
-use Rattle.flags.proofs.Roles.{numbered, bounded_behind, flag_told}
 use Rattle.flags.proofs.Tests.{lead_none, lead_some, tested_stray, tested_unreadable, tested_whole, cut, whole, not_stray, unknown_alone}
 use Rattle.flags.proofs.Tests.{stray_last, stray_again, not_again, unknown_behind, not_stray_behind, looked_behind, known_behind, next_behind}
 use Rattle.flags.proofs.test_behind.Goals as goal
@@ -60,27 +55,26 @@ returns-then-code-i c =
     tested_unreadable a.limits.now.by_role code a.i (not_stray_behind code a.i h p e s)
     (cut code a.i (known_behind code a.i h p e s) (omega (arith, n, c.if-code-i.true)))
 
-pub operands_below-below-requires-clause-numbered : goal.operands_below-below-requires-clause-numbered
-operands_below-below-requires-clause-numbered c =
+pub flag_behind-flag-requires : goal.flag_behind-flag-requires
+flag_behind-flag-requires c =
     let a = c.args in
-    let code = a.code.now in
-    let p = lead_some (byte code a.i) c.lead.ensures c.if-lead-eq0.false in
-    let h : a.i + 1 < length code = omega (arith, c.if-at-code.false, c.requires.i_in_bounds.0) in
-    numbered (looked_behind code a.i h p c.digits-d.ensures c.if-d-eq0.false)
-
-pub returns : goal.returns
-returns c =
-    let a = c.args in
-    let limits : Limits a.limits.now.by_role = search rules in
     let code = a.code.now in
     let p = lead_some (byte code a.i) c.lead.ensures c.if-lead-eq0.false in
     let h : a.i + 1 < length code = omega (arith, c.if-at-code.false, c.requires.i_in_bounds.0) in
     let e = c.digits-d.ensures in
     let s = c.if-d-eq0.false in
     let n = next_behind code a.i h p e s c.size_behind-n.ensures.0 in
-    let k = looked_behind code a.i h p e s in
-    let f = bounded_behind k limits p c.first_width.ensures c.second_width.ensures c.operands_below-below.ensures in
+    record { looked = looked_behind code a.i h p e s; prefixed = p; next_is = n; whole = omega (arith, n, c.if-code-i.false) }
+
+pub returns : goal.returns
+returns c =
+    let a = c.args in
+    let code = a.code.now in
+    let p = lead_some (byte code a.i) c.lead.ensures c.if-lead-eq0.false in
+    let h : a.i + 1 < length code = omega (arith, c.if-at-code.false, c.requires.i_in_bounds.0) in
+    let e = c.digits-d.ensures in
+    let s = c.if-d-eq0.false in
+    let n = next_behind code a.i h p e s c.size_behind-n.ensures.0 in
     tested_whole a.limits.now.by_role code a.i (not_stray_behind code a.i h p e s)
     (whole code a.i (known_behind code a.i h p e s) (omega (arith, n, c.if-code-i.false)))
-    (omega (arith, n))
-    (c.flag_of-flag.ensures.0 ∙ flag_told k a.limits.now.by_role f (ap (λ (x : ℕ). ltb x (length code)) n))
+    (omega (arith, n)) c.flag_behind-flag.ensures
