@@ -103,8 +103,8 @@ fn put_ranges(records: &mut [u32], row: usize, before: FileRows, after: FileRows
 impl<'a> Entries<'a> {
     // A debug file's head: start 4, name index 2, count 4, kind 1.
     #[tactic(auto, unfolding(format::specs::Debug::file_head))]
-    fn read_head(self, last: Option<Pos>, at: usize) -> Result<FileHead, Refusal>
-        ensures { answer_as file_head_of result ≡ file_head self.entry.part.bytes.now self.entry.names (start_of last) at }
+    fn read_head(&self, last: Option<Pos>, at: usize) -> Result<FileHead, Refusal>
+        ensures { answer_as file_head_of result ≡ file_head self.now.part.bytes.now self.now.names (start_of last) at }
     {
         let s = self.part.bytes;
         if rest(s, at) < 4 {
@@ -140,13 +140,13 @@ impl<'a> Entries<'a> {
     // The lines of a debug file, then its row.
     #[tactic(auto, unfolding(crate::specs::Records::body_of))]
     fn read_body(
-        self,
+        &self,
         head: FileHead,
         used: FileRows,
         files: &mut [u32],
         lines: &mut [u32],
     ) -> Result<OneFile, Refusal>
-        ensures { file_run (answer_of result) files.new lines.new ≡ body_of self.entry.part.bytes.now (file_head_of head) used (tabs files.old lines.old) }
+        ensures { file_run (answer_of result) files.new lines.new ≡ body_of self.now.part.bytes.now (file_head_of head) used (tabs files.old lines.old) }
     {
         let map = LineMap {
             bytes: self.part.bytes,
@@ -174,13 +174,13 @@ impl<'a> Entries<'a> {
     // A debug file: its row is needed once its head is read, before its lines.
     #[tactic(auto, unfolding(crate::specs::Records::file_of))]
     fn read_file(
-        self,
+        &self,
         before: OneFile,
         files: &mut [u32],
         lines: &mut [u32],
     ) -> Result<OneFile, Refusal>
         ensures { file_run (answer_of result) files.new lines.new
-            ≡ file_of self.entry.part.bytes.now self.entry.names (filed_of before files.old lines.old) }
+            ≡ file_of self.now.part.bytes.now self.now.names (filed_of before files.old lines.old) }
     {
         let used = before.reached.used;
         let head = self.read_head(before.last, before.reached.at)?;
@@ -192,14 +192,14 @@ impl<'a> Entries<'a> {
 
     // So many debug files, each starting above the one before.
     fn read_files(
-        self,
+        &self,
         n: u32,
         from: Reached,
         files: &mut [u32],
         lines: &mut [u32],
     ) -> Result<Reached, Refusal>
         ensures { files_run (answer_of result) files.new lines.new
-            ≡ files_of self.entry.part.bytes.now self.entry.names n (filed none (spot_of from files.old lines.old)) }
+            ≡ files_of self.now.part.bytes.now self.now.names n (filed none (spot_of from files.old lines.old)) }
     {
         let mut file = OneFile {
             last: None,
@@ -211,10 +211,12 @@ impl<'a> Entries<'a> {
         Ok(file.reached)
     }
 
-    // The debug record of a record: its size and its files; the size is that of the bytes read.
+    // The debug record of a record: its size and its files; the size is that of the bytes read. It stays a call, so that a level of the walk holds the
+    // walk alone.
+    #[inline(never)]
     #[tactic(auto, unfolding(crate::specs::Records::step_of))]
     fn read_record(
-        self,
+        &self,
         walk: Walk,
         records: &mut [u32],
         files: &mut [u32],
@@ -222,7 +224,7 @@ impl<'a> Entries<'a> {
     ) -> Result<Walk, Refusal>
         requires { walk.rec * record_width + 18 < length records.old }
         ensures { walk_run (answer_of result) records.new files.new lines.new
-            ≡ step_of self.entry.part.bytes.now self.entry.names (state_of walk records.old files.old lines.old) }
+            ≡ step_of self.now.part.bytes.now self.now.names (state_of walk records.old files.old lines.old) }
     {
         let s = self.part.bytes;
         let Reached { at, used } = walk.reached;
@@ -242,8 +244,8 @@ impl<'a> Entries<'a> {
     }
 
     // Whether a visit reads nothing: past the last record, or where the section is used up.
-    fn reads_nothing(self, walk: Walk) -> bool
-        ensures { result ≡ reads_nothing self.entry.part.bytes.now walk.reached.at self.entry.count walk.rec }
+    fn reads_nothing(&self, walk: Walk) -> bool
+        ensures { result ≡ reads_nothing self.now.part.bytes.now walk.reached.at self.now.count walk.rec }
     {
         self.count <= walk.rec || self.part.bytes.len() <= walk.reached.at
     }
@@ -251,15 +253,15 @@ impl<'a> Entries<'a> {
     // A visit of a record: its debug record, then its children in turn.
     // `lvar::read_lv_records` walks alike: one function for both would be no plainer, as it needs a trait of the steps, whose ghost members state both walks.
     fn read_debug_record(
-        self,
+        &self,
         walk: Walk,
         records: &mut [u32],
         files: &mut [u32],
         lines: &mut [u32],
     ) -> Result<Walk, Refusal>
-        requires { self.count * record_width ≤ length records.old }
+        requires { self.now.count * record_width ≤ length records.old }
         ensures { walk_run (answer_of result) records.new files.new lines.new
-            ≡ walk_of self.entry.part.bytes.now self.entry.names self.entry.count 1 (state_of walk records.old files.old lines.old) }
+            ≡ walk_of self.now.part.bytes.now self.now.names self.now.count 1 (state_of walk records.old files.old lines.old) }
     {
         if self.reads_nothing(walk) {
             return Ok(walk);
@@ -278,16 +280,16 @@ impl<'a> Entries<'a> {
     // The walk behind the file names, of which so many rows are used.
     #[tactic(auto, unfolding(crate::specs::Section::walked_of))]
     fn read_walk(
-        self,
+        &self,
         at: usize,
         texts: u32,
         records: &mut [u32],
         files: &mut [u32],
         lines: &mut [u32],
     ) -> Result<Section, Refusal>
-        requires { self.count * record_width ≤ length records.old }
+        requires { self.now.count * record_width ≤ length records.old }
         ensures { walked (answer_of result) records.new files.new lines.new
-            ≡ walked_of self.entry.part.bytes.now self.entry.names self.entry.count texts at records.old (tabs files.old lines.old) }
+            ≡ walked_of self.now.part.bytes.now self.now.names self.now.count texts at records.old (tabs files.old lines.old) }
     {
         let from = Walk {
             reached: Reached {

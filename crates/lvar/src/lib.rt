@@ -57,14 +57,14 @@ impl<'a> Entries<'a> {
     // The entries of one record: one fewer than its nlocals.
     #[tactic(auto, unfolding(crate::specs::Names::lv_step))]
     fn read_record(
-        self,
+        &self,
         walk: Walk,
         records: &mut [u32],
         names: &mut [u32],
     ) -> Result<Walk, Refusal>
         requires { walk.rec * record_width + 14 < length records.old }
         ensures { out_of (answer_of result) records.new names.new
-            ≡ lv_step self.entry.part.bytes.now self.entry.part.base self.entry.strings (state_of walk records.old names.old) }
+            ≡ lv_step self.now.part.bytes.now self.now.part.base self.now.strings (state_of walk records.old names.old) }
     {
         let row = walk.rec * RECORD_WIDTH;
         let nlocals = records[row + 1];
@@ -88,14 +88,14 @@ impl<'a> Entries<'a> {
     // A visit of a record: its entries, then its children in turn. A visit past the last record reads nothing.
     // `debug::read_debug_record` walks alike: one function for both would be no plainer, as it needs a trait of the steps, whose ghost members state both walks.
     fn read_lv_records(
-        self,
+        &self,
         walk: Walk,
         records: &mut [u32],
         names: &mut [u32],
     ) -> Result<Walk, Refusal>
-        requires { self.count * record_width ≤ length records.old }
+        requires { self.now.count * record_width ≤ length records.old }
         ensures { out_of (answer_of result) records.new names.new
-            ≡ lv_walk self.entry.part.bytes.now self.entry.part.base self.entry.strings self.entry.count 1 (state_of walk records.old names.old) }
+            ≡ lv_walk self.now.part.bytes.now self.now.part.base self.now.strings self.now.count 1 (state_of walk records.old names.old) }
     {
         if self.count <= walk.rec {
             return Ok(walk);

@@ -10,12 +10,12 @@ use Rattle.debug.proofs.Entries.+read_debug_record.Goals as goal
 
 pub returns-then-reads_nothing : goal.returns-then-reads_nothing
 returns-then-reads_nothing t c =
-    let a = c.args in let s = a.self in
+    let a = c.args in let s = a.self.now in
     sym (visit_none s.part.bytes.now s.names s.count 1 (state_of a.walk a.records.now a.files.now a.lines.now) (sym c.reads_nothing.ensures ∙ c.if-reads_nothing.true))
 
 pub returns-in_err-then : goal.returns-in_err-then
 returns-in_err-then t c =
-    let a = c.args in let s = a.self in let new = c.read_record.new in
+    let a = c.args in let s = a.self.now in let new = c.read_record.new in
     let e =
     visit_one s.part.bytes.now s.names s.count (state_of a.walk a.records.now a.files.now a.lines.now)
     (stop (number c.in_err-then.field-0.0) (held new.records (tabs new.files new.lines)))
@@ -24,7 +24,7 @@ returns-in_err-then t c =
 
 pub loop-child-init : goal.loop-child-init
 loop-child-init t c =
-    let a = c.args in let s = a.self in let new = c.read_record.new in let then = c.in_ok-then.then in
+    let a = c.args in let s = a.self.now in let new = c.read_record.new in let then = c.in_ok-then.then in
     let b =
     visit_began s.part.bytes.now s.names s.count (state_of a.walk a.records.now a.files.now a.lines.now) (state_of then new.records new.files new.lines)
     (sym c.reads_nothing.ensures ∙ c.if-reads_nothing.false) c.in_ok-then.ensures in
@@ -32,14 +32,14 @@ loop-child-init t c =
 
 pub returns-then-reads_nothing-2 : goal.returns-then-reads_nothing-2
 returns-then-reads_nothing-2 t c =
-    let a = c.args in let s = a.self in let l = c.loop-child in
+    let a = c.args in let s = a.self.now in let l = c.loop-child in
     sym (l.invariant.1
     ∙ visit_none s.part.bytes.now s.names s.count (kids_of (state_of a.walk a.records.now a.files.now a.lines.now) - l._child) (state_of l.then l.records l.files l.lines)
     (sym c.reads_nothing-in-loop-child.ensures ∙ c.if-reads_nothing-2.true))
 
 pub returns-in_err-then-2 : goal.returns-in_err-then-2
 returns-in_err-then-2 t c =
-    let a = c.args in let s = a.self in let l = c.loop-child in let new = c.read_debug_record.new in
+    let a = c.args in let s = a.self.now in let l = c.loop-child in let new = c.read_debug_record.new in
     let e =
     l.invariant.1
     ∙ visit_child s.part.bytes.now s.names s.count (kids_of (state_of a.walk a.records.now a.files.now a.lines.now)) l._child (state_of l.then l.records l.files l.lines)
@@ -48,7 +48,7 @@ returns-in_err-then-2 t c =
 
 pub loop-child-preserved : goal.loop-child-preserved
 loop-child-preserved t c =
-    let a = c.args in let s = a.self in let l = c.loop-child in let new = c.read_debug_record.new in let then = c.in_ok-then-2.then in
+    let a = c.args in let s = a.self.now in let l = c.loop-child in let new = c.read_debug_record.new in let then = c.in_ok-then-2.then in
     let here = state_of l.then l.records l.files l.lines in
     let there = state_of then new.records new.files new.lines in
     let h : l.then.rec ≤ then.rec = visit_rec s.part.bytes.now s.names s.count 1 here there c.in_ok-then-2.ensures in (
@@ -59,6 +59,6 @@ loop-child-preserved t c =
 
 pub returns : goal.returns
 returns t c =
-    let a = c.args in let s = a.self in let l = c.loop-child in
+    let a = c.args in let s = a.self.now in let l = c.loop-child in
     sym (l.invariant.1
     ∙ visit_done s.part.bytes.now s.names s.count (kids_of (state_of a.walk a.records.now a.files.now a.lines.now)) l._child (state_of l.then l.records l.files l.lines) c.loop-child-test.false)

@@ -6,7 +6,7 @@ use Rattle.debug.proofs.Entries.+read_debug_record.Given as goal
 
 -- the records left
 abbrev pub decreases-read_debug_record : goal.decreases-read_debug_record
-decreases-read_debug_record l = l.self.count - l.walk.rec
+decreases-read_debug_record l = l.self.now.count - l.walk.rec
 
 -- some children are visited: the rest of the walk starts where the last of them ended, past the record
 abbrev pub invariant-loop-child : goal.invariant-loop-child

@@ -10,7 +10,7 @@ pub returns-in_err-file : goal.returns-in_err-file
 returns-in_err-file c =
     let a = c.args in let l = c.loop-i in let new = c.read_file.new in
     let e =
-    files_no a.self.part.bytes.now a.self.names (a.n - l._i) (filed_of l.file l.files l.lines) (number c.in_err-file.field-0.0) (tabs new.files new.lines)
+    files_no a.self.now.part.bytes.now a.self.now.names (a.n - l._i) (filed_of l.file l.files l.lines) (number c.in_err-file.field-0.0) (tabs new.files new.lines)
     (omega arith) c.in_err-file.ensures
     ∙ l.invariant in
     search rules
@@ -20,7 +20,7 @@ loop-i-preserved c =
     let a = c.args in let l = c.loop-i in let new = c.read_file.new in
     let k : a.n - (l._i + 1) ≡ a.n - l._i - 1 = omega arith in
     rw k
-    (files_go a.self.part.bytes.now a.self.names (a.n - l._i) (filed_of l.file l.files l.lines) (filed_of c.in_ok-file.file new.files new.lines)
+    (files_go a.self.now.part.bytes.now a.self.now.names (a.n - l._i) (filed_of l.file l.files l.lines) (filed_of c.in_ok-file.file new.files new.lines)
     (omega arith) c.in_ok-file.ensures
     ∙ l.invariant)
 

@@ -6,7 +6,7 @@ use Rattle.lvar.proofs.Entries.+read_lv_records.Given as goal
 
 -- the records left
 abbrev pub decreases-read_lv_records : goal.decreases-read_lv_records
-decreases-read_lv_records l = l.self.count - l.walk.rec
+decreases-read_lv_records l = l.self.now.count - l.walk.rec
 
 -- some children are visited: the rest of the walk starts where the last of them ended, past the record
 abbrev pub invariant-loop-child : goal.invariant-loop-child
