@@ -11,10 +11,10 @@ use file::read_sections;
 use format::{DESKTOP_BYTES, DESKTOP_RECORDS};
 use irep::Limits;
 use marks::check_file;
-use refusal::Refusal;
+pub use refusal::Refusal;
 use rite_parents::link_parents;
 pub use sections::Used;
-use tables::Tables;
+pub use tables::Tables;
 
 // What a caller lets a file have.
 #[derive(Drop)]
